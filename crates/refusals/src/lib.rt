@@ -1,0 +1,3 @@
+pub mod kinds;
+pub mod conversions;
+pub mod numbers;

@@ -1,0 +1,4 @@
+pub mod Divides
+pub mod Multiples
+pub mod Counted
+pub mod Added

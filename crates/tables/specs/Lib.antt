@@ -1,0 +1,5 @@
+pub mod Tasks
+pub mod Divisors
+pub mod Hyperperiod
+pub mod Adding
+pub mod Tables
