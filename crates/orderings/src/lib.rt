@@ -1,0 +1,3 @@
+pub mod ordering;
+mod keys;
+pub mod two_phase;
