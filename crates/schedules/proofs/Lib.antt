@@ -1,0 +1,6 @@
+pub mod Firsts
+pub mod Slots
+pub mod Loops
+pub mod Picks
+pub mod Served
+pub mod Viewed

@@ -1,0 +1,104 @@
+-- A run's memory and the state that it stands for.
+use mathlib.Core.Path.{_≡_, refl, sym, ap, subst, _∙_}
+use mathlib.Core.List.{List, [], _∷_, map}
+use mathlib.Core.Bool.{Bool, true, false, not, cond}
+use Prim.Native.Nat.{ℕ, _+_, _<_, _≤_, _^_}
+use native.Mathlib.Omega.{arith}
+use lib.Dec.{ltb, eqb}
+use lib.ListN.{length, getD, take}
+use Rattle.std.specs.Options.{mapped, isSome}
+use Rattle.std.proofs.shelf.Lists.{length-take-le, getD-take, length-map, ext-getD, getD-map}
+use Rattle.std.proofs.shelf.Tests.{lt-ltb, false≢true}
+use Rattle.std.proofs.shelf.Ways.{tells}
+use Rattle.std.specs.declared.option.Option.{Option}
+use Rattle.std.specs.declared.option.Option.the-variants.{Some, None}
+use Rattle.std.specs.declared.result.Result.the-variants.{Ok, Err}
+use Rattle.tables.specs.declared.task.Task.{Task}
+use Rattle.tables.specs.Tasks.{nobody, Each, Timed}
+use Rattle.orderings.specs.Meaning.{Meaning, Exclusive, Transitive}
+use Rattle.schedules.specs.declared.slot.Slot.{Slot}
+use Rattle.schedules.specs.declared.slot.Progress.{Progress}
+use Rattle.schedules.specs.Units.{nothing, at, picked, served, older, missed, renew, renewed, released, AheadOfAllReady}
+use Rattle.schedules.specs.Runs.{State, state-of, Young, closed, advanced, ticked, tick-answer, age-answer, left-answer}
+use Rattle.schedules.proofs.Slots.{older-at, renewed-at}
+use Rattle.schedules.proofs.Served.{spent-length, spent-age}
+use Rattle.schedules.proofs.Picks.{Counted, picked-ahead}
+
+closed-is : (ts : List Task) (ss : List Slot) (miss : Option ℕ) → closed ts ss miss ≡ record { slots = closed ts ss miss .slots; ended = isSome miss }
+closed-is ts ss None = refl
+closed-is ts ss (Some k) = refl
+
+pub renew-young : (t : Task) (s : Slot) → 1 ≤ t .t → s .age ≤ t .t → renew t s .age < t .t
+renew-young t s one le = grind (arith, tells)
+
+none-from : (o : Option ℕ) → false ≡ isSome o → o ≡ None
+none-from None e = refl
+none-from (Some k) e = absurd (false≢true e)
+
+-- what a unit on the front slots gives
+pub record Stepped (ts : List Task) (m : Meaning) (old : List Slot) (ran miss : Option ℕ) (new : List Slot) : Type 0 where
+  pub is-ran : ran ≡ mapped (λ j. j .task) (picked m (take (length ts) old))
+  pub is-miss : miss ≡ missed ts (map older (served m (take (length ts) old)))
+  pub after : take (length ts) new ≡ advanced ts (served m (take (length ts) old)) .slots
+
+module _ (ts : List Task) (p : Progress) (few : length ts ≤ 32) (wide : length (p .slots) ≡ 32) where
+  pub view-length : length (take (length ts) (p .slots)) ≡ length ts
+  view-length = length-take-le (length ts) (p .slots) (omega arith)
+
+  pub view-at : (k : ℕ) → k < length ts → at (take (length ts) (p .slots)) k ≡ at (p .slots) k
+  view-at k h = getD-take (length ts) (p .slots) k nothing h
+
+  pub answers-age : (i : ℕ) → i < length ts → Ok (at (p .slots) i .age) ≡ age-answer (state-of ts p) i
+  answers-age i h = let n = view-length in let e = view-at i h in rw (lt-ltb i (length (take (length ts) (p .slots))) (omega arith), e)
+
+  pub answers-left : (i : ℕ) → i < length ts → Ok (at (p .slots) i .left) ≡ left-answer (state-of ts p) i
+  answers-left i h = let n = view-length in let e = view-at i h in rw (lt-ltb i (length (take (length ts) (p .slots))) (omega arith), e)
+
+  module _ (on : p .ended ≡ false) (timed : Each Timed ts) (young : Young ts p) where
+    pub young-fits : (k : ℕ) → k < length ts → at (p .slots) k .age + 1 < 2 ^ 32
+    young-fits k h = let y = young on k h in let t = timed k h in omega arith
+
+    counted : Counted (take (length ts) (p .slots))
+    counted = record {
+      few = omega (arith, view-length);
+      aged = λ k h. let h′ : k < length ts = omega (arith, view-length) in let y = young-fits k h′ in let e = ap (λ s. s .age) (view-at k h′) in omega arith;
+    }
+
+    module _ (m : Meaning) (ran miss : Option ℕ) (slots : List Slot) (ts′ : List Task) (same : ts′ ≡ ts) (st : Stepped ts′ m (p .slots) ran miss slots) where
+      stepped : Stepped ts m (p .slots) ran miss slots
+      stepped = subst (λ t. Stepped t m (p .slots) ran miss slots) same st
+
+      pub tick-answers : Ok (ran, miss) ≡ tick-answer ts m (state-of ts p)
+      tick-answers = rw (on, stepped .is-ran, stepped .is-miss)
+
+      pub tick-after : (e : Bool) → e ≡ isSome miss → state-of ts (record { slots = slots; ended = e }) ≡ ticked ts m (state-of ts p)
+      tick-after e f =
+        let ss = served m (take (length ts) (p .slots)) in
+        rw (on, f, stepped .after, stepped .is-miss) (sym (closed-is ts (map older ss) (missed ts (map older ss))))
+
+      pub tick-serves : Exclusive m → Transitive m → AheadOfAllReady m (take (length ts) (p .slots)) ran
+      tick-serves ex tr = rw (stepped .is-ran) (picked-ahead m ex tr (take (length ts) (p .slots)) counted)
+
+      pub young-after : false ≡ isSome miss → (k : ℕ) → k < length ts → at slots k .age < getD ts k nobody .t
+      young-after none k h =
+        let ss = take (length ts) (p .slots) in
+        let sp = served m ss in
+        let is-none : missed ts (map older sp) ≡ None = sym (stepped .is-miss) ∙ none-from miss none in
+        let here : take (length ts) slots ≡ renewed ts (map older sp) = stepped .after ∙ ap (λ o. closed ts (map older sp) o .slots) is-none in
+        let n : length sp ≡ length ts = spent-length (picked m ss) ss ∙ view-length in
+        let n′ : length (map older sp) ≡ length ts = length-map sp older ∙ n in
+        let a : at slots k ≡ at (take (length ts) slots) k = sym (getD-take (length ts) slots k nothing h) in
+        let b : at (renewed ts (map older sp)) k ≡ renew (getD ts k nobody) (at (map older sp) k) = renewed-at ts (map older sp) k (omega arith) in
+        let c : at (map older sp) k .age ≡ at (p .slots) k .age + 1 =
+          ap (λ s. s .age) (older-at sp k (omega arith)) ∙ ap (λ x. x + 1) (spent-age (picked m ss) ss k ∙ ap (λ s. s .age) (view-at k h)) in
+        let good = timed k h in
+        let y = young on k h in
+        let done : renew (getD ts k nobody) (at (map older sp) k) .age < getD ts k nobody .t = renew-young (getD ts k nobody) (at (map older sp) k) (omega arith) (omega arith) in
+        subst (λ s. s .age < getD ts k nobody .t) (sym (a ∙ ap (λ l. at l k) here ∙ b)) done
+
+pub new-state : (ts ts′ : List Task) (slots : List Slot) → ts′ ≡ ts → length ts ≤ 32 → length slots ≡ 32 → ((k : ℕ) → k < length ts′ → at slots k ≡ released (getD ts′ k nobody)) → take (length ts) slots ≡ map released ts
+new-state ts ts′ slots same few wide each =
+  let l : length ts′ ≡ length ts = ap length same in
+  let v = length-take-le (length ts) slots (omega arith) in
+  ext-getD nothing (take (length ts) slots) (map released ts) (v ∙ sym (length-map ts released))
+  (λ k h. getD-take (length ts) slots k nothing (omega arith) ∙ each k (omega arith) ∙ ap (λ t. released (getD t k nobody)) same ∙ sym (getD-map released ts k nobody nothing (omega arith)))

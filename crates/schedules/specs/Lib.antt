@@ -1,0 +1,4 @@
+pub mod First
+pub mod Units
+pub mod Runs
+pub mod Schedule

@@ -1,0 +1,28 @@
+ghost use mathlib.Core.Path.{_≡_};
+ghost use mathlib.Core.Bool.{Bool};
+ghost use Rattle.schedules.specs.First.{«first-of», Distinct, ExclusiveOn, TransitiveOn, IsFirst};
+
+/// An order among items of any kind.
+pub trait Order<T> {
+    /// The meaning: does the first item precede the second?
+    ghost precedes: { Self → T → T → Bool };
+
+    fn is_before(&self, x: T, y: T) -> bool
+        ensures { λ r. ⌜ r ≡ precedes (now (self .entry)) x y ⌝ };
+}
+
+/// The first item of a list under an order, or none of an empty list.
+/// Where the items are distinct and the order is total and transitive on them, it precedes all others.
+pub fn first<T: Copy, R: Order<T>>(items: &[T], order: &R) -> Option<T>
+    ensures value { λ r. ⌜ r ≡ first-of (precedes (now (order .entry))) (now (items .entry)) ⌝ }
+    ensures precedes_all_others { λ r. ⌜ (Distinct (now (items .entry)) → ExclusiveOn (precedes (now (order .entry))) (now (items .entry)) → TransitiveOn (precedes (now (order .entry))) (now (items .entry)) → IsFirst (precedes (now (order .entry))) (now (items .entry)) r) ⌝ }
+{
+    let mut best = None;
+    for x in items {
+        best = match best {
+            None => Some(*x),
+            Some(b) => Some(if order.is_before(*x, b) { *x } else { b }),
+        };
+    }
+    best
+}
