@@ -4,3 +4,5 @@ pub mod Loops
 pub mod Picks
 pub mod Served
 pub mod Viewed
+pub mod Endless
+pub mod Judged

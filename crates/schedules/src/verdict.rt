@@ -1,3 +1,10 @@
+ghost use mathlib.Core.Path.{_≡_};
+ghost use Rattle.tables.specs.Tables.{«tasks-of»};
+ghost use Rattle.schedules.specs.Schedule.{«verdict-of», SaysOfEndless};
+use crate::run::Run;
+use orderings::ordering::Ordering;
+use tables::table::Table;
+
 /// The first miss of a schedule.
 #[derive(Clone, Copy, Debug, PartialEq, Eq)]
 pub struct Miss {
@@ -12,4 +19,26 @@ pub struct Miss {
 pub enum Verdict {
     Holds,
     Misses(Miss),
+}
+
+impl Verdict {
+    /// The verdict on a table under an ordering, from at most one hyperperiod of the full schedule.
+    pub fn of<'a, O: Ordering>(table: &'a Table, ordering: &'a O) -> Verdict
+        ensures value { λ r. ⌜ r ≡ verdict-of (tasks-of (now (table .entry))) (ahead (now (ordering .entry))) ⌝ }
+        ensures says_of_the_endless_schedule { λ r. ⌜ SaysOfEndless (tasks-of (now (table .entry))) (ahead (now (ordering .entry))) r ⌝ }
+    {
+        let mut run = Run::new(table, ordering);
+        for n in 0..table.hyperperiod() {
+            match run.tick() {
+                Ok((_, miss)) => {
+                    if let Some(task) = miss {
+                        return Verdict::Misses(Miss { task, instant: n + 1 });
+                    }
+                }
+                // a run that has come to no miss has not ended
+                Err(_) => unreachable(),
+            }
+        }
+        Verdict::Holds
+    }
 }
