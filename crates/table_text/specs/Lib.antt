@@ -1,0 +1,4 @@
+pub mod Fields
+pub mod Separators
+pub mod Records
+pub mod Reading
