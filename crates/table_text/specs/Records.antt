@@ -45,7 +45,8 @@ record-at text at row =
     and-then (ended-field-at text (p2 .end) row 6) (λ s.
     Ok (record {
       task = record { c = c .value; d = d .value; t = t .value; p1 = p1 .value; p2 = p2 .value; s = s .value };
-      end = s .end })))))))
+      end = s .end;
+    })))))))
 
 -- the tasks with one more, or why it is not added
 abbrev pub added-by : {A : Type 0} → ℕ → List Task → Result A AddRefusal → Result (List Task) RecordFault

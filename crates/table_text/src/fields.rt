@@ -50,8 +50,8 @@ fn field_number(s: &[u8]) -> Option<u32>
     ensures { λ r. ⌜ r ≡ field-number (now (s .entry)) ⌝ }
 {
     let n = s.len();
-    let two = 2;
-    if n >= two && s[0] == QUOTE && s[n - 1] == QUOTE {
+    let shortest = 2;
+    if n >= shortest && s[0] == QUOTE && s[n - 1] == QUOTE {
         plain_number(&s[1..n - 1])
     } else {
         plain_number(s)

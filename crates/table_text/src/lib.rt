@@ -1,6 +1,6 @@
 mod bytes;
-mod parts;
 mod fields;
-mod separators;
-mod records;
+mod parts;
 pub mod reading;
+mod records;
+mod separators;

@@ -23,7 +23,10 @@ fn read_ended_field(text: &[u8], at: usize, row: u32, k: u32) -> Result<Field, R
 {
     let f = read_field(text, at, row, k)?;
     match past_separator(text, f.end, k) {
-        Some(end) => Ok(Field { value: f.value, end }),
+        Some(end) => Ok(Field {
+            value: f.value,
+            end,
+        }),
         None => Err(RecordFault::Shape(row)),
     }
 }
@@ -40,7 +43,14 @@ fn read_record(text: &[u8], at: usize, row: u32) -> Result<TaskRecord, RecordFau
     let p1 = read_ended_field(text, t.end, row, 4)?;
     let p2 = read_ended_field(text, p1.end, row, 5)?;
     let s = read_ended_field(text, p2.end, row, 6)?;
-    let task = Task { c: c.value, d: d.value, t: t.value, p1: p1.value, p2: p2.value, s: s.value };
+    let task = Task {
+        c: c.value,
+        d: d.value,
+        t: t.value,
+        p1: p1.value,
+        p2: p2.value,
+        s: s.value,
+    };
     Ok(TaskRecord { task, end: s.end })
 }
 

@@ -44,5 +44,9 @@ pub(crate) fn past_separator(text: &[u8], at: usize, k: u32) -> Option<usize>
     ensures bound { λ r. ⌜ found r (λ n. n ≤ length (now (text .entry))) ⌝ }
 {
     let last = 6;
-    if k < last { past_comma(text, at) } else { past_end(text, at) }
+    if k < last {
+        past_comma(text, at)
+    } else {
+        past_end(text, at)
+    }
 }
