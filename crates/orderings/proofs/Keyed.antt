@@ -25,7 +25,7 @@ one-smaller None (Some y) i j r s ne e = refl
 one-smaller None None i j r s ne e = e
 
 smaller-chain : (x y z : Option ℤ) (i j k : ℕ) (r s t : Bool) → (r ≡ true → s ≡ true → t ≡ true)
-  → smaller-key x i y j r ≡ true → smaller-key y j z k s ≡ true → smaller-key x i z k t ≡ true
+    → smaller-key x i y j r ≡ true → smaller-key y j z k s ≡ true → smaller-key x i z k t ≡ true
 smaller-chain (Some x) (Some y) (Some z) i j k r s t rest p q = grind (arith, ints)
 smaller-chain (Some x) (Some y) None i j k r s t rest p q = refl
 smaller-chain (Some x) None (Some z) i j k r s t rest p q = grind arith
@@ -37,14 +37,14 @@ smaller-chain None None None i j k r s t rest p q = rest p q
 module _ (key : ℕ → ℕ → Option ℤ) (m : Meaning) where
   pub by-key-exclusive : Exclusive m → Exclusive (by-key key m)
   by-key-exclusive law i a j b hi ha hj hb ne =
-    precedes-different (key j b) (key i a) j i (m j b i a) (λ e. ne (sym e))
-    ∙ one-smaller (key i a) (key j b) i j (m i a j b) (m j b i a) ne (law i a j b hi ha hj hb ne)
-    ∙ ap not (sym (precedes-different (key i a) (key j b) i j (m i a j b) ne))
+      precedes-different (key j b) (key i a) j i (m j b i a) (λ e. ne (sym e))
+      ∙ one-smaller (key i a) (key j b) i j (m i a j b) (m j b i a) ne (law i a j b hi ha hj hb ne)
+      ∙ ap not (sym (precedes-different (key i a) (key j b) i j (m i a j b) ne))
 
   pub by-key-transitive : Transitive m → Transitive (by-key key m)
   by-key-transitive law i a j b k c hi ha hj hb hk hc ij jk ik p q =
-    precedes-different (key i a) (key k c) i k (m i a k c) ik
-    ∙ smaller-chain (key i a) (key j b) (key k c) i j k (m i a j b) (m j b k c) (m i a k c) (law i a j b k c hi ha hj hb hk hc ij jk ik)
+      precedes-different (key i a) (key k c) i k (m i a k c) ik
+      ∙ smaller-chain (key i a) (key j b) (key k c) i j k (m i a j b) (m j b k c) (m i a k c) (law i a j b k c hi ha hj hb hk hc ij jk ik)
       (sym (precedes-different (key i a) (key j b) i j (m i a j b) ij) ∙ p) (sym (precedes-different (key j b) (key k c) j k (m j b k c) jk) ∙ q)
 
   pub by-key-irreflexive : Irreflexive (by-key key m)

@@ -15,12 +15,12 @@ InRange n = n < 2 ^ 32
 -- of two jobs of different tasks exactly one is ahead of the other
 abbrev pub Exclusive : Meaning → Type 0
 Exclusive m = (i a j b : ℕ) → InRange i → InRange a → InRange j → InRange b
-  → i ≢ j → m j b i a ≡ not (m i a j b)
+    → i ≢ j → m j b i a ≡ not (m i a j b)
 
 -- among three different tasks: the first ahead of the second, and that of the third, is ahead of the third
 abbrev pub Transitive : Meaning → Type 0
 Transitive m = (i a j b k c : ℕ) → InRange i → InRange a → InRange j → InRange b → InRange k → InRange c
-  → i ≢ j → j ≢ k → i ≢ k → m i a j b ≡ true → m j b k c ≡ true → m i a k c ≡ true
+    → i ≢ j → j ≢ k → i ≢ k → m i a j b ≡ true → m j b k c ≡ true → m i a k c ≡ true
 
 -- a job is not ahead of one of the same task
 abbrev pub Irreflexive : Meaning → Type 0

@@ -1,3 +1,3 @@
-pub mod ordering;
 mod keys;
+pub mod ordering;
 pub mod two_phase;

@@ -1,3 +1,3 @@
-pub mod kinds;
 pub mod conversions;
+pub mod kinds;
 pub mod numbers;

@@ -43,9 +43,18 @@ impl Refusal {
         match *self {
             Refusal::Reading(ReadRefusal::TextTooLong) => Some(Place { row: 0, field: 0 }),
             Refusal::Reading(ReadRefusal::OtherHeader) => Some(Place { row: 1, field: 0 }),
-            Refusal::Reading(ReadRefusal::Record(RecordFault::Field(f))) => Some(Place { row: f.row, field: f.field }),
-            Refusal::Reading(ReadRefusal::Record(RecordFault::Shape(row))) => Some(Place { row, field: 0 }),
-            Refusal::Reading(ReadRefusal::Record(RecordFault::Adding(row, _))) => Some(Place { row, field: 0 }),
+            Refusal::Reading(ReadRefusal::Record(RecordFault::Field(f))) => Some(Place {
+                row: f.row,
+                field: f.field,
+            }),
+            Refusal::Reading(ReadRefusal::Record(RecordFault::Shape(row))) => Some(Place {
+                row,
+                field: 0,
+            }),
+            Refusal::Reading(ReadRefusal::Record(RecordFault::Adding(row, _))) => Some(Place {
+                row,
+                field: 0,
+            }),
             Refusal::Adding(_) => None,
             Refusal::Asking(_) => None,
             Refusal::Ticking(_) => None,

@@ -28,12 +28,13 @@ use Rattle.schedules.proofs.Served.{spent-length, spent-age}
 -- counting up modulo T: the next number, or 0 at T
 mod-step : (n T : ℕ) → 1 ≤ T → suc n % T ≡ cond (eqb (n % T + 1) T) 0 (n % T + 1)
 mod-step n T pos =
-  let l : n % T < T = mod-lt n (omega arith) in
-  elim (cases-eq (n % T + 1) T) [
-      inl e ↦ let f : suc (n % T) ≡ T = omega arith in
-        suc-mod n T ∙ ap (λ k. k % T) f ∙ mod-self T ∙ sym (cond-true _ _ _ (eq-eqb (n % T + 1) T e))
-    | inr ne ↦ let f : suc (n % T) < T = omega arith in
-        suc-mod n T ∙ mod-eq-of-lt f ∙ (let g : suc (n % T) ≡ n % T + 1 = omega arith in g) ∙ sym (cond-false _ _ _ (ne-eqb (n % T + 1) T ne)) ]
+    let l : n % T < T = mod-lt n (omega arith) in
+    elim (cases-eq (n % T + 1) T) [
+      | inl e ↦ let f : suc (n % T) ≡ T = omega arith in
+          suc-mod n T ∙ ap (λ k. k % T) f ∙ mod-self T ∙ sym (cond-true _ _ _ (eq-eqb (n % T + 1) T e))
+      | inr ne ↦ let f : suc (n % T) < T = omega arith in
+          suc-mod n T ∙ mod-eq-of-lt f ∙ (let g : suc (n % T) ≡ n % T + 1 = omega arith in g) ∙ sym (cond-false _ _ _ (ne-eqb (n % T + 1) T ne))
+    ]
 
 -- a slot after a unit, where none missed
 module _ (t : Task) (s : Slot) where
@@ -43,9 +44,10 @@ module _ (t : Task) (s : Slot) where
   -- only a release gives age 0
   renew-zero : renew t (older s) .age ≡ 0 → renew t (older s) ≡ released t
   renew-zero e = elim (cases-eq (s .age + 1) (t .t)) [
-      inl same ↦ cond-true _ _ _ (eq-eqb (s .age + 1) (t .t) same)
+    | inl same ↦ cond-true _ _ _ (eq-eqb (s .age + 1) (t .t) same)
     | inr ne ↦ let f = cond-false (eqb (s .age + 1) (t .t)) (released t) (older s) (ne-eqb (s .age + 1) (t .t) ne) in
-        let g : s .age + 1 ≡ 0 = sym (ap (λ x. x .age) f) ∙ e in absurd (let z : ⊥ = omega arith in z) ]
+        let g : s .age + 1 ≡ 0 = sym (ap (λ x. x .age) f) ∙ e in absurd (let z : ⊥ = omega arith in z)
+  ]
 
 state-is : (st : State) → st .ended ≡ false → st ≡ record { slots = st .slots; ended = false }
 state-is st e = ap (λ b. record { slots = st .slots; ended = b }) e
@@ -69,29 +71,29 @@ module _ (ts : List Task) (m : Meaning) (timed : Each Timed ts) where
   -- the state after a tick that misses nothing
   after-no-miss : (n : ℕ) → full ts m n .ended ≡ false → full-miss ts m (suc n) ≡ None → full ts m (suc n) ≡ record { slots = renewed ts (map older (served m (full ts m n .slots))); ended = false }
   after-no-miss n on none =
-    let none′ : missed ts (map older (served m (full ts m n .slots))) ≡ None = rw on at none in
-    rw (on, none′)
+      let none′ : missed ts (map older (served m (full ts m n .slots))) ≡ None = rw on at none in
+      rw (on, none′)
 
   going-step : (n : ℕ) → Going n → full-miss ts m (suc n) ≡ None → Going (suc n)
   going-step n g none =
-    let ss = full ts m n .slots in
-    let sp = served m ss in
-    let after = after-no-miss n (g .on) none in
-    let slots : full ts m (suc n) .slots ≡ renewed ts (map older sp) = ap (λ st. st .slots) after in
-    let n₁ : length sp ≡ length ts = spent-length (picked m ss) ss ∙ g .long in
-    let n₂ : length (map older sp) ≡ length ts = length-map sp older ∙ n₁ in
-    let place : (k : ℕ) → k < length ts → at (full ts m (suc n) .slots) k ≡ renew (getD ts k nobody) (older (at sp k)) = λ k h.
+      let ss = full ts m n .slots in
+      let sp = served m ss in
+      let after = after-no-miss n (g .on) none in
+      let slots : full ts m (suc n) .slots ≡ renewed ts (map older sp) = ap (λ st. st .slots) after in
+      let n₁ : length sp ≡ length ts = spent-length (picked m ss) ss ∙ g .long in
+      let n₂ : length (map older sp) ≡ length ts = length-map sp older ∙ n₁ in
+      let place : (k : ℕ) → k < length ts → at (full ts m (suc n) .slots) k ≡ renew (getD ts k nobody) (older (at sp k)) = λ k h.
       ap (λ l. at l k) slots ∙ renewed-at ts (map older sp) k (omega arith) ∙ ap (renew (getD ts k nobody)) (older-at sp k (omega arith)) in
-    record {
-      on = ap (λ st. st .ended) after;
-      long = ap length slots ∙ renewed-length ts (map older sp) ∙ n₂;
-      aged = λ k h.
-        let t = getD ts k nobody in
-        let bounds = timed k h in
-        let age : at sp k .age ≡ n % t .t = spent-age (picked m ss) ss k ∙ g .aged k h in
-        ap (λ s. s .age) (place k h) ∙ renew-age t (at sp k) ∙ ap (λ a. cond (eqb (a + 1) (t .t)) 0 (a + 1)) age ∙ sym (mod-step n (t .t) (omega arith));
-      new = λ k h e. place k h ∙ renew-zero (getD ts k nobody) (at sp k) (ap (λ s. s .age) (sym (place k h)) ∙ e);
-    }
+      record {
+        on = ap (λ st. st .ended) after;
+        long = ap length slots ∙ renewed-length ts (map older sp) ∙ n₂;
+        aged = λ k h.
+            let t = getD ts k nobody in
+            let bounds = timed k h in
+            let age : at sp k .age ≡ n % t .t = spent-age (picked m ss) ss k ∙ g .aged k h in
+            ap (λ s. s .age) (place k h) ∙ renew-age t (at sp k) ∙ ap (λ a. cond (eqb (a + 1) (t .t)) 0 (a + 1)) age ∙ sym (mod-step n (t .t) (omega arith));
+        new = λ k h e. place k h ∙ renew-zero (getD ts k nobody) (at sp k) (ap (λ s. s .age) (sym (place k h)) ∙ e);
+      }
 
   pub going : (n : ℕ) → ((k : ℕ) → k ≤ n → full-miss ts m k ≡ None) → Going n
   going zero none = going-start
@@ -100,12 +102,12 @@ module _ (ts : List Task) (m : Meaning) (timed : Each Timed ts) where
   -- after a common multiple of the periods every job is new
   back-to-fresh : (H : ℕ) → CommonMultiple ts H → Going H → full ts m H ≡ fresh ts
   back-to-fresh H divides g =
-    let same : full ts m H .slots ≡ map released ts = ext-getD nothing (full ts m H .slots) (map released ts) (g .long ∙ sym (length-map ts released))
+      let same : full ts m H .slots ≡ map released ts = ext-getD nothing (full ts m H .slots) (map released ts) (g .long ∙ sym (length-map ts released))
       (λ k h.
-        let h′ : k < length ts = omega (arith, g .long) in
-        let zero-age : at (full ts m H .slots) k .age ≡ 0 = g .aged k h′ ∙ mod-eq-zero-of-dvd (getD ts k nobody .t) (divides k h′) in
-        g .new k h′ zero-age ∙ sym (getD-map released ts k nobody nothing h′)) in
-    state-is (full ts m H) (g .on) ∙ ap (λ ss. record { slots = ss; ended = false }) same
+      let h′ : k < length ts = omega (arith, g .long) in
+      let zero-age : at (full ts m H .slots) k .age ≡ 0 = g .aged k h′ ∙ mod-eq-zero-of-dvd (getD ts k nobody .t) (divides k h′) in
+      g .new k h′ zero-age ∙ sym (getD-map released ts k nobody nothing h′)) in
+      state-is (full ts m H) (g .on) ∙ ap (λ ss. record { slots = ss; ended = false }) same
 
   module _ (H : ℕ) (pos : 1 ≤ H) (back : full ts m H ≡ fresh ts) (none : (k : ℕ) → k ≤ H → full-miss ts m k ≡ None) where
     repeats : (n : ℕ) → full ts m (n + H) ≡ full ts m n
@@ -116,10 +118,11 @@ module _ (ts : List Task) (m : Meaning) (timed : Each Timed ts) where
     never-within fuel zero h = refl
     never-within zero (suc n) h = absurd (let z : ⊥ = omega arith in z)
     never-within (suc fuel) (suc n) h = elim (cases-lt n H) [
-        inl low ↦ none (suc n) (omega arith)
+      | inl low ↦ none (suc n) (omega arith)
       | inr high ↦
           let split : n ≡ (n - H) + H = omega arith in
-          ap (λ k. tick-miss ts m (full ts m k)) split ∙ ap (tick-miss ts m) (repeats (n - H)) ∙ never-within fuel (suc (n - H)) (omega arith) ]
+          ap (λ k. tick-miss ts m (full ts m k)) split ∙ ap (tick-miss ts m) (repeats (n - H)) ∙ never-within fuel (suc (n - H)) (omega arith)
+    ]
 
     never : NeverMisses ts m
     never n = never-within n n (omega arith)

@@ -37,33 +37,39 @@ module _ {X : Type 0} (lt : X → X → Bool) (all : List X) (ex : ExclusiveOn l
     is = rw e (r .is);
     here = inr (r .here);
     over = λ ne. elim (r .here) [
-        inl same ↦ rw same e
+      | inl same ↦ rw same e
       | inr more ↦ let apart : x ≢ r .best = all-in (λ y. x ≢ y) xs (r .best) far-x more in
-          tr (r .best) x b (part (r .best) (inr (inr more))) (part x (inr (inl refl))) (part b (inl refl)) (λ q. apart (sym q)) (λ q. far-b .0 (sym q)) (λ q. ne (sym q)) (r .over apart) e ];
+          tr (r .best) x b (part (r .best) (inr (inr more))) (part x (inr (inl refl))) (part b (inl refl)) (λ q. apart (sym q)) (λ q. far-b .0 (sym q)) (λ q. ne (sym q)) (r .over apart) e
+    ];
     rest = (r .over, r .rest);
   }
 
   keeps : (b x : X) (xs : List X) → Part (b ∷ (x ∷ xs)) → All (λ y. b ≢ y) (x ∷ xs) → lt x b ≡ false → Best b xs → Best b (x ∷ xs)
   keeps b x xs part far-b e r =
-    let beaten : lt b x ≡ true = ex x b (part x (inr (inl refl))) (part b (inl refl)) (λ q. far-b .0 (sym q)) ∙ ap not e in
-    record {
-    best = r .best;
-    is = rw e (r .is);
-    here = elim (r .here) [ inl same ↦ inl same | inr more ↦ inr (inr more) ];
-    over = r .over;
-    rest = (λ ne. elim (r .here) [
-        inl same ↦ rw same beaten
-      | inr more ↦ let apart : b ≢ r .best = all-in (λ y. b ≢ y) xs (r .best) (far-b .1) more in
-          tr (r .best) b x (part (r .best) (inr (inr more))) (part b (inl refl)) (part x (inr (inl refl))) (λ q. apart (sym q)) (far-b .0) (λ q. ne (sym q)) (r .over apart) beaten ], r .rest);
-  }
+      let beaten : lt b x ≡ true = ex x b (part x (inr (inl refl))) (part b (inl refl)) (λ q. far-b .0 (sym q)) ∙ ap not e in
+      record {
+        best = r .best;
+        is = rw e (r .is);
+        here = elim (r .here) [ inl same ↦ inl same | inr more ↦ inr (inr more) ];
+        over = r .over;
+        rest = (
+          λ ne. elim (r .here) [
+            | inl same ↦ rw same beaten
+            | inr more ↦ let apart : b ≢ r .best = all-in (λ y. b ≢ y) xs (r .best) (far-b .1) more in
+                tr (r .best) b x (part (r .best) (inr (inr more))) (part b (inl refl)) (part x (inr (inl refl))) (λ q. apart (sym q)) (far-b .0) (λ q. ne (sym q)) (r .over apart) beaten
+          ],
+          r .rest,
+        );
+      }
 
   finds : (b : X) (xs : List X) → Part (b ∷ xs) → All (λ y. b ≢ y) xs → Distinct xs → Best b xs
   finds b [] part far apart = record { best = b; is = refl; here = inl refl; over = λ ne. absurd (ne refl); rest = tt }
   finds b (x ∷ xs) part far apart =
-    let P : Bool → Type 0 = λ v. lt x b ≡ v → Best b (x ∷ xs) in
-    (elim (lt x b) as P [
-      true ↦ λ e. takes b x xs part far (apart .0) e (finds x xs (λ y h. part y (inr h)) (apart .0) (apart .1))
-    | false ↦ λ e. keeps b x xs part far e (finds b xs (λ y h. elim h [ inl same ↦ part y (inl same) | inr more ↦ part y (inr (inr more)) ]) (far .1) (apart .1)) ]) refl
+      let P : Bool → Type 0 = λ v. lt x b ≡ v → Best b (x ∷ xs) in
+      (elim (lt x b) as P [
+        | true ↦ λ e. takes b x xs part far (apart .0) e (finds x xs (λ y h. part y (inr h)) (apart .0) (apart .1))
+        | false ↦ λ e. keeps b x xs part far e (finds b xs (λ y h. elim h [ inl same ↦ part y (inl same) | inr more ↦ part y (inr (inr more)) ]) (far .1) (apart .1))
+      ]) refl
 
   leads-from : (xs : List X) → Part xs → Distinct xs → IsFirst lt xs (first-of lt xs)
   leads-from [] part apart = refl
@@ -76,10 +82,11 @@ first-leads lt xs apart ex tr = leads-from lt xs ex tr xs (λ y h. h) apart
 scanned-in : {X : Type 0} (lt : X → X → Bool) (b y : X) (xs : List X) → folded (better lt) (Some b) xs ≡ Some y → In y (b ∷ xs)
 scanned-in lt b y [] e = let same : b ≡ y = cc in inl (sym same)
 scanned-in lt b y (x ∷ xs) e =
-  let P : Bool → Type 0 = λ v. folded (better lt) (Some (cond v x b)) xs ≡ Some y → In y (b ∷ (x ∷ xs)) in
-  (elim (lt x b) as P [
-    true ↦ λ h. inr (scanned-in lt x y xs h)
-  | false ↦ λ h. elim (scanned-in lt b y xs h) [ inl same ↦ inl same | inr more ↦ inr (inr more) ] ]) e
+    let P : Bool → Type 0 = λ v. folded (better lt) (Some (cond v x b)) xs ≡ Some y → In y (b ∷ (x ∷ xs)) in
+    (elim (lt x b) as P [
+      | true ↦ λ h. inr (scanned-in lt x y xs h)
+      | false ↦ λ h. elim (scanned-in lt b y xs h) [ inl same ↦ inl same | inr more ↦ inr (inr more) ]
+    ]) e
 
 pub first-in : {X : Type 0} (lt : X → X → Bool) (y : X) (xs : List X) → first-of lt xs ≡ Some y → In y xs
 first-in lt y [] e = let z : _≡_ {A = ℕ} 0 1 = cc in absurd (let w : ⊥ = omega arith in w)

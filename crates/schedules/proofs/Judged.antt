@@ -25,20 +25,20 @@ module _ (ts : List Task) (m : Meaning) where
 
   pub answer-miss : (st : State) (ran miss : Option ℕ) → st .ended ≡ false → Ok (ran, miss) ≡ tick-answer ts m st → tick-miss ts m st ≡ miss
   answer-miss st ran miss on e =
-    let f : _≡_ {A = Result (Option ℕ × Option ℕ) TickRefusal} (Ok (ran, miss)) (Ok (mapped (λ j. j .task) (picked m (st .slots)), tick-miss ts m st)) = e ∙ going-answer st on in
-    let pair : _≡_ {A = Option ℕ × Option ℕ} (ran, miss) (mapped (λ j. j .task) (picked m (st .slots)), tick-miss ts m st) = cc in
-    sym (ap (λ x. x .1) pair)
+      let f : _≡_ {A = Result (Option ℕ × Option ℕ) TickRefusal} (Ok (ran, miss)) (Ok (mapped (λ j. j .task) (picked m (st .slots)), tick-miss ts m st)) = e ∙ going-answer st on in
+      let pair : _≡_ {A = Option ℕ × Option ℕ} (ran, miss) (mapped (λ j. j .task) (picked m (st .slots)), tick-miss ts m st) = cc in
+      sym (ap (λ x. x .1) pair)
 
   pub answer-refused : (st : State) (e : TickRefusal) → st .ended ≡ false → Err e ≡ tick-answer ts m st → ⊥
   answer-refused st r on e =
-    let f : _≡_ {A = Result (Option ℕ × Option ℕ) TickRefusal} (Err r) (Ok (mapped (λ j. j .task) (picked m (st .slots)), tick-miss ts m st)) = e ∙ going-answer st on in
-    let z : _≡_ {A = ℕ} 0 1 = cc in omega arith
+      let f : _≡_ {A = Result (Option ℕ × Option ℕ) TickRefusal} (Err r) (Ok (mapped (λ j. j .task) (picked m (st .slots)), tick-miss ts m st)) = e ∙ going-answer st on in
+      let z : _≡_ {A = ℕ} 0 1 = cc in omega arith
 
   module _ (H n : ℕ) (st : State) where
     judged-next : n < H → judged ts m None (H - n) n st ≡ judged ts m (tick-miss ts m st) (H - (n + 1)) (n + 1) (ticked ts m st)
     judged-next h =
-      let e : H - n ≡ suc (H - (n + 1)) = omega arith in
-      ap (λ f. judged ts m None f n st) e ∙ ap (λ k. judged ts m (tick-miss ts m st) (H - (n + 1)) k (ticked ts m st)) (sym (add-one n))
+        let e : H - n ≡ suc (H - (n + 1)) = omega arith in
+        ap (λ f. judged ts m None f n st) e ∙ ap (λ k. judged ts m (tick-miss ts m st) (H - (n + 1)) k (ticked ts m st)) (sym (add-one n))
 
     pub judged-miss : (i : ℕ) → n < H → tick-miss ts m st ≡ Some i → judged ts m None (H - n) n st ≡ Misses (record { task = i; instant = n + 1 })
     judged-miss i h e = judged-next h ∙ ap (λ o. judged ts m o (H - (n + 1)) (n + 1) (ticked ts m st)) e

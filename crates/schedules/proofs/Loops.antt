@@ -18,14 +18,15 @@ use Rattle.schedules.proofs.Slots.{older-at}
 
 pub grown : (xs ys : List Slot) → length ys ≡ length xs → ((k : ℕ) → k < length ys → at ys k ≡ older (at xs k)) → ys ≡ map older xs
 grown xs ys long each =
-  ext-getD nothing ys (map older xs) (long ∙ sym (length-map xs older)) (λ k h. each k h ∙ sym (older-at xs k (subst (λ n. k < n) long h)))
+    ext-getD nothing ys (map older xs) (long ∙ sym (length-map xs older)) (λ k h. each k h ∙ sym (older-at xs k (subst (λ n. k < n) long h)))
 
 pub lowest-at : (p : ℕ → Bool) (a n k : ℕ) → a ≤ k → k < a + n → ((i : ℕ) → i < k → p i ≡ false) → p k ≡ true → lowest p a n ≡ Some k
 lowest-at p a zero k low high before here = absurd (omega arith)
 lowest-at p a (suc n) k low high before here =
-  elim (cases-eq a k) [
-      inl e ↦ cond-true (p a) _ _ (ap p e ∙ here) ∙ ap Some e
-    | inr ne ↦ let h : a + 1 ≤ k = omega arith in cond-false (p a) _ _ (before a (omega arith)) ∙ lowest-at p (a + 1) n k h (omega arith) before here ]
+    elim (cases-eq a k) [
+      | inl e ↦ cond-true (p a) _ _ (ap p e ∙ here) ∙ ap Some e
+      | inr ne ↦ let h : a + 1 ≤ k = omega arith in cond-false (p a) _ _ (before a (omega arith)) ∙ lowest-at p (a + 1) n k h (omega arith) before here
+    ]
 
 pub lowest-absent : (p : ℕ → Bool) (a n : ℕ) → ((i : ℕ) → i < a + n → p i ≡ false) → lowest p a n ≡ None
 lowest-absent p a zero none = refl
@@ -38,15 +39,15 @@ module _ (ss : List Slot) (i : ℕ) (jobs : List Job) (n : ℕ) (within : i < le
 
   pub ready-yes : 0 < at ss i .left → take (n + 1) (set jobs n (record { task = i; age = at ss i .age })) ++ ready-from (i + 1) (drop (i + 1) ss) ≡ ready-from 0 ss
   ready-yes r =
-    let j : Job = record { task = i; age = at ss i .age } in
-    ap (λ u. u ++ ready-from (i + 1) (drop (i + 1) ss)) (take-more-set jobs n j room)
-    ∙ append-assoc (take n jobs) (j ∷ []) (ready-from (i + 1) (drop (i + 1) ss))
-    ∙ ap (λ u. take n jobs ++ u) (sym (opened ∙ cond-true _ _ _ (lt-ltb 0 _ r)))
-    ∙ so-far
+      let j : Job = record { task = i; age = at ss i .age } in
+      ap (λ u. u ++ ready-from (i + 1) (drop (i + 1) ss)) (take-more-set jobs n j room)
+      ∙ append-assoc (take n jobs) (j ∷ []) (ready-from (i + 1) (drop (i + 1) ss))
+      ∙ ap (λ u. take n jobs ++ u) (sym (opened ∙ cond-true _ _ _ (lt-ltb 0 _ r)))
+      ∙ so-far
 
   pub ready-no : at ss i .left ≤ 0 → take n jobs ++ ready-from (i + 1) (drop (i + 1) ss) ≡ ready-from 0 ss
   ready-no r = ap (λ u. take n jobs ++ u) (sym (opened ∙ cond-false _ _ _ (le-ltb 0 _ r))) ∙ so-far
 
 pub ready-all : (ss : List Slot) (i : ℕ) (jobs : List Job) (n : ℕ) → length ss ≤ i → take n jobs ++ ready-from i (drop i ss) ≡ ready-from 0 ss → take n jobs ≡ ready-from 0 ss
 ready-all ss i jobs n past so-far =
-  sym (append-nil (take n jobs)) ∙ ap (λ u. take n jobs ++ u) (sym (at-drop-all (ready-from i) ss i past)) ∙ so-far
+    sym (append-nil (take n jobs)) ∙ ap (λ u. take n jobs ++ u) (sym (at-drop-all (ready-from i) ss i past)) ∙ so-far

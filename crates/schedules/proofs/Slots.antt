@@ -26,8 +26,9 @@ module _ (ss : List Slot) (i : ℕ) (f : ℕ → ℕ) (none : f 0 ≡ 0) where
 
   pub put-same : (k : ℕ) → k ≡ i → at put k ≡ record { age = at ss k .age; left = f (at ss k .left) }
   put-same k e = elim (cases-lt i (length ss)) [
-      inl lt ↦ rw e (getD-set-same ss i _ nothing lt)
-    | inr le ↦ let past : at ss i ≡ nothing = getD-past ss i nothing le in rw (e, set-past ss i _ le, past, none) ]
+    | inl lt ↦ rw e (getD-set-same ss i _ nothing lt)
+    | inr le ↦ let past : at ss i ≡ nothing = getD-past ss i nothing le in rw (e, set-past ss i _ le, past, none)
+  ]
 
   pub put-other : (k : ℕ) → k ≢ i → at put k ≡ at ss k
   put-other k ne = getD-set-other ss i k _ nothing ne
@@ -37,8 +38,9 @@ module _ (ss : List Slot) (i : ℕ) (f : ℕ → ℕ) (none : f 0 ≡ 0) where
 
   pub put-left : (k : ℕ) → at put k .left ≡ cond (eqb k i) (f (at ss k .left)) (at ss k .left)
   put-left k = elim (cases-eq k i) [
-      inl e ↦ ap (λ s. s .left) (put-same k e) ∙ sym (cond-true _ _ _ (eq-eqb k i e))
-    | inr ne ↦ ap (λ s. s .left) (put-other k ne) ∙ sym (cond-false _ _ _ (ne-eqb k i ne)) ]
+    | inl e ↦ ap (λ s. s .left) (put-same k e) ∙ sym (cond-true _ _ _ (eq-eqb k i e))
+    | inr ne ↦ ap (λ s. s .left) (put-other k ne) ∙ sym (cond-false _ _ _ (ne-eqb k i ne))
+  ]
 
 pub older-at : (ss : List Slot) (k : ℕ) → k < length ss → at (map older ss) k ≡ older (at ss k)
 older-at ss k h = getD-map older ss k nothing nothing h
@@ -59,8 +61,9 @@ renewed-past ts ss k h = getD-past (renewed ts ss) k nothing (rw (renewed-length
 pub lowest-none : (p q : ℕ → Bool) → ((k : ℕ) → p k ≡ true → q k ≡ true) → (a n : ℕ) → lowest q a n ≡ None → lowest p a n ≡ None
 lowest-none p q sub a zero e = refl
 lowest-none p q sub a (suc n) e =
-  let P : Bool → Bool → Type 0 = λ u v. (u ≡ true → v ≡ true) → cond v (Some a) (lowest q (a + 1) n) ≡ None → cond u (Some a) (lowest p (a + 1) n) ≡ None in
-  let go : (u v : Bool) → P u v = λ u v. elim u as (λ u. P u v) [
-      true ↦ elim v as (λ v. P true v) [ true ↦ λ h e. e | false ↦ λ h e. grind arith ]
-    | false ↦ elim v as (λ v. P false v) [ true ↦ λ h e. grind arith | false ↦ λ h e. lowest-none p q sub (a + 1) n e ] ] in
-  go (p a) (q a) (sub a) e
+    let P : Bool → Bool → Type 0 = λ u v. (u ≡ true → v ≡ true) → cond v (Some a) (lowest q (a + 1) n) ≡ None → cond u (Some a) (lowest p (a + 1) n) ≡ None in
+    let go : (u v : Bool) → P u v = λ u v. elim u as (λ u. P u v) [
+      | true ↦ elim v as (λ v. P true v) [ true ↦ λ h e. e | false ↦ λ h e. grind arith ]
+      | false ↦ elim v as (λ v. P false v) [ true ↦ λ h e. grind arith | false ↦ λ h e. lowest-none p q sub (a + 1) n e ]
+    ] in
+    go (p a) (q a) (sub a) e

@@ -73,32 +73,32 @@ module _ (ts : List Task) (p : Progress) (few : length ts ≤ 32) (wide : length
 
       pub tick-after : (e : Bool) → e ≡ isSome miss → state-of ts (record { slots = slots; ended = e }) ≡ ticked ts m (state-of ts p)
       tick-after e f =
-        let ss = served m (take (length ts) (p .slots)) in
-        rw (on, f, stepped .after, stepped .is-miss) (sym (closed-is ts (map older ss) (missed ts (map older ss))))
+          let ss = served m (take (length ts) (p .slots)) in
+          rw (on, f, stepped .after, stepped .is-miss) (sym (closed-is ts (map older ss) (missed ts (map older ss))))
 
       pub tick-serves : Exclusive m → Transitive m → AheadOfAllReady m (take (length ts) (p .slots)) ran
       tick-serves ex tr = rw (stepped .is-ran) (picked-ahead m ex tr (take (length ts) (p .slots)) counted)
 
       pub young-after : false ≡ isSome miss → (k : ℕ) → k < length ts → at slots k .age < getD ts k nobody .t
       young-after none k h =
-        let ss = take (length ts) (p .slots) in
-        let sp = served m ss in
-        let is-none : missed ts (map older sp) ≡ None = sym (stepped .is-miss) ∙ none-from miss none in
-        let here : take (length ts) slots ≡ renewed ts (map older sp) = stepped .after ∙ ap (λ o. closed ts (map older sp) o .slots) is-none in
-        let n : length sp ≡ length ts = spent-length (picked m ss) ss ∙ view-length in
-        let n′ : length (map older sp) ≡ length ts = length-map sp older ∙ n in
-        let a : at slots k ≡ at (take (length ts) slots) k = sym (getD-take (length ts) slots k nothing h) in
-        let b : at (renewed ts (map older sp)) k ≡ renew (getD ts k nobody) (at (map older sp) k) = renewed-at ts (map older sp) k (omega arith) in
-        let c : at (map older sp) k .age ≡ at (p .slots) k .age + 1 =
+          let ss = take (length ts) (p .slots) in
+          let sp = served m ss in
+          let is-none : missed ts (map older sp) ≡ None = sym (stepped .is-miss) ∙ none-from miss none in
+          let here : take (length ts) slots ≡ renewed ts (map older sp) = stepped .after ∙ ap (λ o. closed ts (map older sp) o .slots) is-none in
+          let n : length sp ≡ length ts = spent-length (picked m ss) ss ∙ view-length in
+          let n′ : length (map older sp) ≡ length ts = length-map sp older ∙ n in
+          let a : at slots k ≡ at (take (length ts) slots) k = sym (getD-take (length ts) slots k nothing h) in
+          let b : at (renewed ts (map older sp)) k ≡ renew (getD ts k nobody) (at (map older sp) k) = renewed-at ts (map older sp) k (omega arith) in
+          let c : at (map older sp) k .age ≡ at (p .slots) k .age + 1 =
           ap (λ s. s .age) (older-at sp k (omega arith)) ∙ ap (λ x. x + 1) (spent-age (picked m ss) ss k ∙ ap (λ s. s .age) (view-at k h)) in
-        let good = timed k h in
-        let y = young on k h in
-        let done : renew (getD ts k nobody) (at (map older sp) k) .age < getD ts k nobody .t = renew-young (getD ts k nobody) (at (map older sp) k) (omega arith) (omega arith) in
-        subst (λ s. s .age < getD ts k nobody .t) (sym (a ∙ ap (λ l. at l k) here ∙ b)) done
+          let good = timed k h in
+          let y = young on k h in
+          let done : renew (getD ts k nobody) (at (map older sp) k) .age < getD ts k nobody .t = renew-young (getD ts k nobody) (at (map older sp) k) (omega arith) (omega arith) in
+          subst (λ s. s .age < getD ts k nobody .t) (sym (a ∙ ap (λ l. at l k) here ∙ b)) done
 
 pub new-state : (ts ts′ : List Task) (slots : List Slot) → ts′ ≡ ts → length ts ≤ 32 → length slots ≡ 32 → ((k : ℕ) → k < length ts′ → at slots k ≡ released (getD ts′ k nobody)) → take (length ts) slots ≡ map released ts
 new-state ts ts′ slots same few wide each =
-  let l : length ts′ ≡ length ts = ap length same in
-  let v = length-take-le (length ts) slots (omega arith) in
-  ext-getD nothing (take (length ts) slots) (map released ts) (v ∙ sym (length-map ts released))
-  (λ k h. getD-take (length ts) slots k nothing (omega arith) ∙ each k (omega arith) ∙ ap (λ t. released (getD t k nobody)) same ∙ sym (getD-map released ts k nobody nothing (omega arith)))
+    let l : length ts′ ≡ length ts = ap length same in
+    let v = length-take-le (length ts) slots (omega arith) in
+    ext-getD nothing (take (length ts) slots) (map released ts) (v ∙ sym (length-map ts released))
+    (λ k h. getD-take (length ts) slots k nothing (omega arith) ∙ each k (omega arith) ∙ ap (λ t. released (getD t k nobody)) same ∙ sym (getD-map released ts k nobody nothing (omega arith)))

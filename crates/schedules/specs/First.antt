@@ -33,7 +33,7 @@ ExclusiveOn {X} lt xs = (x y : X) → In x xs → In y xs → x ≢ y → lt y x
 
 abbrev pub TransitiveOn : {X : Type 0} → (X → X → Bool) → List X → Type 0
 TransitiveOn {X} lt xs = (x y z : X) → In x xs → In y xs → In z xs → x ≢ y → y ≢ z → x ≢ z
-  → lt x y ≡ true → lt y z ≡ true → lt x z ≡ true
+    → lt x y ≡ true → lt y z ≡ true → lt x z ≡ true
 
 -- x is in the list and precedes every other item
 abbrev pub Leads : {X : Type 0} → (X → X → Bool) → List X → X → Type 0

@@ -1,6 +1,6 @@
-pub mod order;
 pub mod job;
+pub mod order;
+pub mod run;
 pub mod slot;
 mod steps;
-pub mod run;
 pub mod verdict;

@@ -41,7 +41,10 @@ impl<'a, O: Ordering> Run<'a, O> {
         Run {
             table,
             ordering,
-            progress: Progress { slots, ended: false },
+            progress: Progress {
+                slots,
+                ended: false,
+            },
             ready: [Job { task: 0, age: 0 }; 32],
         }
     }
@@ -58,7 +61,12 @@ impl<'a, O: Ordering> Run<'a, O> {
         if self.progress.ended {
             return Err(TickRefusal::RunEnded);
         }
-        let (ran, miss) = front_unit(self.table.tasks(), &mut self.progress.slots, &mut self.ready, self.ordering);
+        let (ran, miss) = front_unit(
+            self.table.tasks(),
+            &mut self.progress.slots,
+            &mut self.ready,
+            self.ordering,
+        );
         if miss.is_some() {
             self.progress.ended = true;
         }
@@ -70,7 +78,11 @@ impl<'a, O: Ordering> Run<'a, O> {
         ensures { λ r. ⌜ r ≡ age-answer (state-of (tasks-of (behind (now (self .entry) .table))) (now (self .entry) .progress)) i ⌝ }
     {
         let k = i as usize;
-        if k < self.table.len() { Ok(self.progress.slots[k].age) } else { Err(QuestionRefusal::NoSuchTask) }
+        if k < self.table.len() {
+            Ok(self.progress.slots[k].age)
+        } else {
+            Err(QuestionRefusal::NoSuchTask)
+        }
     }
 
     /// The units that a task's present job may still use. It works on an ended run, too.
@@ -78,6 +90,10 @@ impl<'a, O: Ordering> Run<'a, O> {
         ensures { λ r. ⌜ r ≡ left-answer (state-of (tasks-of (behind (now (self .entry) .table))) (now (self .entry) .progress)) i ⌝ }
     {
         let k = i as usize;
-        if k < self.table.len() { Ok(self.progress.slots[k].left) } else { Err(QuestionRefusal::NoSuchTask) }
+        if k < self.table.len() {
+            Ok(self.progress.slots[k].left)
+        } else {
+            Err(QuestionRefusal::NoSuchTask)
+        }
     }
 }

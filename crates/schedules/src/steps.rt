@@ -24,7 +24,10 @@ fn gather(slots: &[Slot], ready: &mut [Job]) -> usize
     for k in 0..slots.len() {
         let slot = slots[k];
         if slot.left > 0 {
-            ready[n] = Job { task: k as u32, age: slot.age };
+            ready[n] = Job {
+                task: k as u32,
+                age: slot.age,
+            };
             n += 1;
         }
     }
@@ -102,7 +105,12 @@ fn advance(tasks: &[Task], slots: &mut [Slot]) -> Option<u32>
 }
 
 // One unit on the slots of all tasks: who ran and who missed.
-fn unit<O: Ordering>(tasks: &[Task], slots: &mut [Slot], ready: &mut [Job], ordering: &O) -> (Option<u32>, Option<u32>)
+fn unit<O: Ordering>(
+    tasks: &[Task],
+    slots: &mut [Slot],
+    ready: &mut [Job],
+    ordering: &O,
+) -> (Option<u32>, Option<u32>)
     requires few { ⌜ length (now slots) ≤ 32 ⌝ }
     requires room { ⌜ length (now slots) ≤ length (now ready) ⌝ }
     requires long { ⌜ length (now slots) ≤ length (now tasks) ⌝ }
@@ -117,7 +125,12 @@ fn unit<O: Ordering>(tasks: &[Task], slots: &mut [Slot], ready: &mut [Job], orde
 }
 
 // One unit on the front slots, one to a task; the slots behind them stay as they are.
-pub(crate) fn front_unit<O: Ordering>(tasks: &[Task], slots: &mut [Slot], ready: &mut [Job], ordering: &O) -> (Option<u32>, Option<u32>)
+pub(crate) fn front_unit<O: Ordering>(
+    tasks: &[Task],
+    slots: &mut [Slot],
+    ready: &mut [Job],
+    ordering: &O,
+) -> (Option<u32>, Option<u32>)
     requires few { ⌜ length (now tasks) ≤ 32 ⌝ }
     requires room { ⌜ length (now tasks) ≤ length (now ready) ⌝ }
     requires long { ⌜ length (now tasks) ≤ length (now slots) ⌝ }
@@ -136,6 +149,9 @@ pub(crate) fn fill(tasks: &[Task], slots: &mut [Slot])
     ensures { λ _. ⌜ ((k : ℕ) → k < length (now (tasks .entry)) → at (now (slots .exit)) k ≡ released (getD (now (tasks .entry)) k nobody)) ⌝ }
 {
     for k in 0..tasks.len() {
-        slots[k] = Slot { age: 0, left: tasks[k].c };
+        slots[k] = Slot {
+            age: 0,
+            left: tasks[k].c,
+        };
     }
 }

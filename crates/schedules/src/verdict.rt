@@ -32,7 +32,10 @@ impl Verdict {
             match run.tick() {
                 Ok((_, miss)) => {
                     if let Some(task) = miss {
-                        return Verdict::Misses(Miss { task, instant: n + 1 });
+                        return Verdict::Misses(Miss {
+                            task,
+                            instant: n + 1,
+                        });
                     }
                 }
                 // a run that has come to no miss has not ended

@@ -22,8 +22,9 @@ use Rattle.tables.specs.Adding.{timely, well-ranked, add-fault, answer-by, tas
 pub each-push : (P : Task → Type 0) (ts : List Task) (x : Task) → Each P ts → P x → Each P (ts ++ x ∷ [])
 each-push P ts x all p k h =
     elim (cases-lt k (length ts)) [
-      inl l ↦ subst P (sym (getD-append-left ts (x ∷ []) nobody k l)) (all k l)
-    | inr g ↦ let e = length-push ts x in subst P (sym (getD-push ts x nobody k (omega arith))) p ]
+      | inl l ↦ subst P (sym (getD-append-left ts (x ∷ []) nobody k l)) (all k l)
+      | inr g ↦ let e = length-push ts x in subst P (sym (getD-push ts x nobody k (omega arith))) p
+    ]
 
 pub timed-from : (x : Task) → timely x ≡ true → Timed x
 timed-from x e =

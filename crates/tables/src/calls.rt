@@ -12,7 +12,14 @@ use crate::task::Task;
 use refusals::kinds::AddRefusal;
 
 // What stands in the places behind the tasks.
-const NOBODY: Task = Task { c: 0, d: 0, t: 0, p1: 0, p2: 0, s: 0 };
+const NOBODY: Task = Task {
+    c: 0,
+    d: 0,
+    t: 0,
+    p1: 0,
+    p2: 0,
+    s: 0,
+};
 
 fn times_within_bounds(x: &Task) -> bool
     ensures { λ r. ⌜ r ≡ timely (now (x .entry)) ⌝ }
@@ -32,7 +39,12 @@ impl Table {
         ensures no_tasks { λ r. ⌜ tasks-of r ≡ [] ⌝ }
         ensures hyperperiod_is_one { λ r. ⌜ hyperperiod-of (tasks-of r) ≡ 1 ⌝ }
     {
-        Table { rows: Rows { tasks: [NOBODY; 32], count: 0 } }
+        Table {
+            rows: Rows {
+                tasks: [NOBODY; 32],
+                count: 0,
+            },
+        }
     }
 
     /// How many tasks there are.
@@ -55,7 +67,11 @@ impl Table {
         ensures { λ r. ⌜ r ≡ task-at (tasks-of (now (self .entry))) i ⌝ }
     {
         let k = i as usize;
-        if k < self.rows.count { Some(self.rows.tasks[k]) } else { None }
+        if k < self.rows.count {
+            Some(self.rows.tasks[k])
+        } else {
+            None
+        }
     }
 
     /// The hyperperiod: the least common multiple of all periods, 1 for the empty table.

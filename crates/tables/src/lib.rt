@@ -1,5 +1,5 @@
-mod euclid;
-pub mod task;
-pub mod table;
 pub mod calls;
 pub mod equality;
+mod euclid;
+pub mod table;
+pub mod task;

@@ -6,5 +6,5 @@ use Rattle.schedules.proofs.run.Run.left.Needs as need
 
 pub returns-then-k-len : need.returns-then-k-len
 returns-then-k-len g c =
-  let s = c .args .self .now in
-  answers-left (tasks-of (s .table .now)) (s .progress) (tasks-few (s .table .now)) (s .wide) (c .args .i) (omega arith)
+    let s = c .args .self .now in
+    answers-left (tasks-of (s .table .now)) (s .progress) (tasks-few (s .table .now)) (s .wide) (c .args .i) (omega arith)

@@ -8,9 +8,9 @@ use Rattle.schedules.proofs.run.Run.new.Needs as need
 
 pub returns : need.returns
 returns g c =
-  let t = c .args .table .now in
-  record {
-    state = ap (λ ss. record { slots = ss; ended = false }) (new-state (tasks-of t) (c .tasks .result .now) (c .fill .last .slots) (c .tasks .ensures) (tasks-few t) (c .fill .kept .slots) (c .fill .ensures));
-    keeps-table = refl;
-    keeps-ordering = refl;
-  }
+    let t = c .args .table .now in
+    record {
+      state = ap (λ ss. record { slots = ss; ended = false }) (new-state (tasks-of t) (c .tasks .result .now) (c .fill .last .slots) (c .tasks .ensures) (tasks-few t) (c .fill .kept .slots) (c .fill .ensures));
+      keeps-table = refl;
+      keeps-ordering = refl;
+    }

@@ -10,8 +10,8 @@ use Rattle.schedules.proofs.verdict.Verdict.of.Given as given
 -- the run is at instant n of the full schedule, no tick has missed, and what is left to judge gives the verdict
 abbrev pub Inv-loop-n : given.InvT-loop-n
 Inv-loop-n g l =
-  (now (l .run .table) ≡ l .table)
-  × (now (l .run .ordering) ≡ l .ordering)
-  × (state-of (tasks-of (l .table)) (l .run .progress) ≡ full (tasks-of (l .table)) (g .O·Ordering .ahead (l .ordering)) (l .n))
-  × ((k : ℕ) → k ≤ l .n → full-miss (tasks-of (l .table)) (g .O·Ordering .ahead (l .ordering)) k ≡ None)
-  × (judged (tasks-of (l .table)) (g .O·Ordering .ahead (l .ordering)) None (l .n-end - l .n) (l .n) (full (tasks-of (l .table)) (g .O·Ordering .ahead (l .ordering)) (l .n)) ≡ verdict-of (tasks-of (l .table)) (g .O·Ordering .ahead (l .ordering)))
+    (now (l .run .table) ≡ l .table)
+    × (now (l .run .ordering) ≡ l .ordering)
+    × (state-of (tasks-of (l .table)) (l .run .progress) ≡ full (tasks-of (l .table)) (g .O·Ordering .ahead (l .ordering)) (l .n))
+    × ((k : ℕ) → k ≤ l .n → full-miss (tasks-of (l .table)) (g .O·Ordering .ahead (l .ordering)) k ≡ None)
+    × (judged (tasks-of (l .table)) (g .O·Ordering .ahead (l .ordering)) None (l .n-end - l .n) (l .n) (full (tasks-of (l .table)) (g .O·Ordering .ahead (l .ordering)) (l .n)) ≡ verdict-of (tasks-of (l .table)) (g .O·Ordering .ahead (l .ordering)))

@@ -69,10 +69,16 @@ ghost-self c =
     let v : c .least-multiple-h .result ≡ lcm (hyperperiod-of ts) (x .t) = c .least-multiple-h .ensures ∙ ap (λ h. lcm h (x .t)) (c .hyperperiod .ensures .value) in
     let times = timed-from x (sym (c .if-not-times-within-bounds .ensures tt)) in
     let ranks = ranked-from x (sym (c .if-not-priorities-within-bounds .ensures tt)) in
-    let hp = ap hyperperiod-of more ∙ hyper-push ts x in
-    (length-set (t .rows .tasks) (t .rows .count) x ∙ wide, (omega arith,
-     (subst (Each Timed) (sym more) (each-push Timed ts x (t .timed) times),
-     (subst (Each Ranked) (sym more) (each-push Ranked ts x (t .ranked) ranks), omega arith))))
+    let hp = ap hyperperiod-of more ∙ hyper-push ts x in (
+      length-set (t .rows .tasks) (t .rows .count) x ∙ wide,
+      (
+        omega arith,
+        (
+          subst (Each Timed) (sym more) (each-push Timed ts x (t .timed) times),
+          (subst (Each Ranked) (sym more) (each-push Ranked ts x (t .ranked) ranks), omega arith),
+        ),
+      ),
+    )
 
 pub returns : need.returns
 returns c =

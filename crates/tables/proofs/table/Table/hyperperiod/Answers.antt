@@ -13,7 +13,6 @@ use Rattle.tables.proofs.Multiples.{hyper-nil, hyper-more, hyper-front, hyper-
 use Rattle.tables.proofs.Counted.{tasks-count, tasks-at, positive}
 use Rattle.tables.proofs.table.Table.hyperperiod.Needs as need
 
-
 pub loop-i-holds : need.loop-i-holds
 loop-i-holds c = sym hyper-nil
 
