@@ -92,13 +92,15 @@ pub first-in : {X : Type 0} (lt : X → X → Bool) (y : X) (xs : List X) → fi
 first-in lt y [] e = let z : _≡_ {A = ℕ} 0 1 = cc in absurd (let w : ⊥ = omega arith in w)
 first-in lt y (x ∷ xs) e = scanned-in lt x y xs e
 
+-- the scan begins with the first item
+pub first-one : {X : Type 0} (lt : X → X → Bool) (xs : List X) (x : X) → 0 < length xs → x ≡ getD xs 0 x → Some x ≡ first-of lt (take 1 xs)
+first-one lt [] x h e = absurd (let z : ⊥ = omega arith in z)
+first-one lt (y ∷ ys) x h e = ap Some e
+
 -- one turn of the scan
 module _ {X : Type 0} (lt : X → X → Bool) (xs : List X) (i : ℕ) (x : X) (b n : Option X) (within : i < length xs) (item : x ≡ getD xs i x) (so-far : b ≡ first-of lt (take i xs)) where
   step : n ≡ better lt b x → n ≡ first-of lt (take (i + 1) xs)
   step e = e ∙ ap (λ u. better lt u x) so-far ∙ ap (better lt (first-of lt (take i xs))) item ∙ sym (folded-more (better lt) None xs i x within)
-
-  pub first-none : b ≡ None → n ≡ Some x → n ≡ first-of lt (take (i + 1) xs)
-  first-none e f = step (rw e f)
 
   pub first-takes : (y : X) (t : Bool) → b ≡ Some y → t ≡ lt x y → t ≡ true → n ≡ Some x → n ≡ first-of lt (take (i + 1) xs)
   first-takes y t e u v f = step (rw (e, ← u, v) f)

@@ -17,12 +17,15 @@ pub fn first<T: Copy, R: Order<T>>(items: &[T], order: &R) -> Option<T>
     ensures value { λ r. ⌜ r ≡ first-of (precedes (now (order .entry))) (now (items .entry)) ⌝ }
     ensures precedes_all_others { λ r. ⌜ (Distinct (now (items .entry)) → ExclusiveOn (precedes (now (order .entry))) (now (items .entry)) → TransitiveOn (precedes (now (order .entry))) (now (items .entry)) → IsFirst (precedes (now (order .entry))) (now (items .entry)) r) ⌝ }
 {
-    let mut best = None;
-    for x in items {
-        best = match best {
-            None => Some(*x),
-            Some(b) => Some(if order.is_before(*x, b) { *x } else { b }),
-        };
+    if items.is_empty() {
+        return None;
     }
-    best
+    let mut best = items[0];
+    for i in 1..items.len() {
+        let x = items[i];
+        if order.is_before(x, best) {
+            best = x;
+        }
+    }
+    Some(best)
 }

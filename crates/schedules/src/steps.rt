@@ -4,7 +4,7 @@ ghost use Prim.Native.Nat.{ℕ, _+_, _^_, _<_, _≤_};
 ghost use lib.ListN.{length, getD, take};
 ghost use Rattle.std.specs.Options.{mapped};
 ghost use Rattle.tables.specs.Tasks.{nobody};
-ghost use Rattle.schedules.specs.Units.{at, «ready-from», picked, served, older, missed, released, renewed};
+ghost use Rattle.schedules.specs.Units.{at, «ready-from», picked, served, older, late, missed, released, renewed};
 ghost use Rattle.schedules.specs.Runs.{closed, advanced};
 use crate::job::Job;
 use crate::job::JobsUnder;
@@ -23,13 +23,12 @@ fn gather(slots: &[Slot], ready: &mut [Job]) -> usize
     let mut n = 0;
     for k in 0..slots.len() {
         let slot = slots[k];
-        if slot.left > 0 {
-            ready[n] = Job {
-                task: k as u32,
-                age: slot.age,
-            };
-            n += 1;
-        }
+        // written in any case, and counted if ready: the processor then has nothing to guess
+        ready[n] = Job {
+            task: k as u32,
+            age: slot.age,
+        };
+        n += usize::from(slot.left > 0);
     }
     n
 }
@@ -52,27 +51,29 @@ fn serve<O: Ordering>(slots: &mut [Slot], ready: &mut [Job], ordering: &O) -> Op
     }
 }
 
-// Every age rises by one.
-fn grow(slots: &mut [Slot])
-    requires { ⌜ ((k : ℕ) → k < length (now slots) → at (now slots) k .age + 1 < 2 ^ 32) ⌝ }
-    ensures { λ _. ⌜ now (slots .exit) ≡ map older (now (slots .entry)) ⌝ }
+// Has the job come to its deadline with units left?
+fn is_late(task: &Task, slot: &Slot) -> bool
+    ensures { λ r. ⌜ r ≡ late (now (task .entry)) (now (slot .entry)) ⌝ }
 {
-    for s in slots.iter_mut() {
-        s.age += 1;
-    }
+    slot.age == task.d && slot.left > 0
 }
 
-// The lowest task that has come to its deadline with units left.
-fn overdue(tasks: &[Task], slots: &[Slot]) -> Option<u32>
-    requires { ⌜ length (now slots) ≤ length (now tasks) ⌝ ∗ ⌜ length (now slots) ≤ 32 ⌝ }
-    ensures { λ r. ⌜ r ≡ missed (now (tasks .entry)) (now (slots .entry)) ⌝ }
+// Every age rises by one. The lowest task that thereby comes to its deadline with units left.
+fn grow(tasks: &[Task], slots: &mut [Slot]) -> Option<u32>
+    requires few { ⌜ length (now slots) ≤ 32 ⌝ }
+    requires long { ⌜ length (now slots) ≤ length (now tasks) ⌝ }
+    requires young { ⌜ ((k : ℕ) → k < length (now slots) → at (now slots) k .age + 1 < 2 ^ 32) ⌝ }
+    ensures after { λ _. ⌜ now (slots .exit) ≡ map older (now (slots .entry)) ⌝ }
+    ensures miss { λ r. ⌜ r ≡ missed (now (tasks .entry)) (map older (now (slots .entry))) ⌝ }
 {
+    let mut miss = None;
     for k in 0..slots.len() {
-        if slots[k].age == tasks[k].d && slots[k].left > 0 {
-            return Some(k as u32);
+        slots[k].age += 1;
+        if is_late(&tasks[k], &slots[k]) && miss.is_none() {
+            miss = Some(k as u32);
         }
     }
-    None
+    miss
 }
 
 // Each task of age T gets its next job, of age 0 and with its whole budget.
@@ -96,8 +97,7 @@ fn advance(tasks: &[Task], slots: &mut [Slot]) -> Option<u32>
     ensures miss { λ r. ⌜ r ≡ missed (now (tasks .entry)) (map older (now (slots .entry))) ⌝ }
     ensures after { λ r. ⌜ now (slots .exit) ≡ advanced (now (tasks .entry)) (now (slots .entry)) .slots ⌝ }
 {
-    grow(slots);
-    let miss = overdue(tasks, slots);
+    let miss = grow(tasks, slots);
     if miss.is_none() {
         release(tasks, slots);
     }
