@@ -10,6 +10,8 @@ use Rattle.std.specs.Iters.{folded}
 use Rattle.std.specs.declared.option.Option.{Option}
 use Rattle.std.specs.declared.option.Option.the-variants.{Some, None}
 use Rattle.std.specs.shelf.Lists.{All}
+use Rattle.std.proofs.shelf.Lists.{getD-default}
+use Rattle.std.proofs.shelf.Tests.{cond-true, cond-false}
 use Rattle.std.proofs.shelf.Sums.{folded-more}
 use Rattle.schedules.specs.First.{better, first-of, In, Distinct, ExclusiveOn, TransitiveOn, Leads, IsFirst}
 
@@ -93,17 +95,23 @@ first-in lt y [] e = let z : _≡_ {A = ℕ} 0 1 = cc in absurd (let w : ⊥ = o
 first-in lt y (x ∷ xs) e = scanned-in lt x y xs e
 
 -- the scan begins with the first item
-pub first-one : {X : Type 0} (lt : X → X → Bool) (xs : List X) (x : X) → 0 < length xs → x ≡ getD xs 0 x → Some x ≡ first-of lt (take 1 xs)
-first-one lt [] x h e = absurd (let z : ⊥ = omega arith in z)
-first-one lt (y ∷ ys) x h e = ap Some e
+pub first-one : {X : Type 0} (lt : X → X → Bool) (xs : List X) (d : X) → 0 < length xs → Some (getD xs 0 d) ≡ first-of lt (take 1 xs)
+first-one lt [] d h = absurd (let z : ⊥ = omega arith in z)
+first-one lt (y ∷ ys) d h = refl
 
--- one turn of the scan
-module _ {X : Type 0} (lt : X → X → Bool) (xs : List X) (i : ℕ) (x : X) (b n : Option X) (within : i < length xs) (item : x ≡ getD xs i x) (so-far : b ≡ first-of lt (take i xs)) where
-  step : n ≡ better lt b x → n ≡ first-of lt (take (i + 1) xs)
-  step e = e ∙ ap (λ u. better lt u x) so-far ∙ ap (better lt (first-of lt (take i xs))) item ∙ sym (folded-more (better lt) None xs i x within)
+-- one turn of the scan: x stands at i, and the best so far, y, at b
+module _ {X : Type 0} (lt : X → X → Bool) (xs : List X) (i b : ℕ) (x y : X) (i-in : i < length xs) (b-in : b < length xs)
+    (x-at : x ≡ getD xs i x) (y-at : y ≡ getD xs b y) (so-far : (d : X) → Some (getD xs b d) ≡ first-of lt (take i xs)) where
+  step : better lt (Some y) x ≡ first-of lt (take (i + 1) xs)
+  step =
+      ap (λ u. better lt u x) (ap Some y-at ∙ so-far y)
+      ∙ ap (better lt (first-of lt (take i xs))) x-at
+      ∙ sym (folded-more (better lt) None xs i x i-in)
 
-  pub first-takes : (y : X) (t : Bool) → b ≡ Some y → t ≡ lt x y → t ≡ true → n ≡ Some x → n ≡ first-of lt (take (i + 1) xs)
-  first-takes y t e u v f = step (rw (e, ← u, v) f)
+  pub first-takes : (t : Bool) → t ≡ lt x y → t ≡ true → (d : X) → Some (getD xs i d) ≡ first-of lt (take (i + 1) xs)
+  first-takes t e f d =
+      ap Some (getD-default xs i d x i-in ∙ sym x-at ∙ sym (cond-true (lt x y) x y (sym e ∙ f))) ∙ step
 
-  pub first-keeps : (y : X) (t : Bool) → b ≡ Some y → t ≡ lt x y → t ≡ false → n ≡ Some y → n ≡ first-of lt (take (i + 1) xs)
-  first-keeps y t e u v f = step (rw (e, ← u, v) f)
+  pub first-keeps : (t : Bool) → t ≡ lt x y → t ≡ false → (d : X) → Some (getD xs b d) ≡ first-of lt (take (i + 1) xs)
+  first-keeps t e f d =
+      ap Some (getD-default xs b d y b-in ∙ sym y-at ∙ sym (cond-false (lt x y) x y (sym e ∙ f))) ∙ step

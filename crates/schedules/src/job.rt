@@ -13,7 +13,7 @@ pub struct Job {
 pub impl<O: Ordering> Order<Job> for O as JobsUnder {
     ghost precedes = { λ o x y. O·Ordering .ahead o (x .task) (x .age) (y .task) (y .age) };
 
-    fn is_before(&self, x: Job, y: Job) -> bool {
+    fn is_before(&self, x: &Job, y: &Job) -> bool {
         self.is_ahead(x.task, x.age, y.task, y.age)
     }
 }

@@ -7,8 +7,8 @@ pub trait Order<T> {
     /// The meaning: does the first item precede the second?
     ghost precedes: { Self → T → T → Bool };
 
-    fn is_before(&self, x: T, y: T) -> bool
-        ensures { λ r. ⌜ r ≡ precedes (now (self .entry)) x y ⌝ };
+    fn is_before(&self, x: &T, y: &T) -> bool
+        ensures { λ r. ⌜ r ≡ precedes (now (self .entry)) (now (x .entry)) (now (y .entry)) ⌝ };
 }
 
 /// The first item of a list under an order, or none of an empty list.
@@ -20,12 +20,11 @@ pub fn first<T: Copy, R: Order<T>>(items: &[T], order: &R) -> Option<T>
     if items.is_empty() {
         return None;
     }
-    let mut best = items[0];
+    let mut best = 0;
     for i in 1..items.len() {
-        let x = items[i];
-        if order.is_before(x, best) {
-            best = x;
+        if order.is_before(&items[i], &items[best]) {
+            best = i;
         }
     }
-    Some(best)
+    Some(items[best])
 }

@@ -22,13 +22,12 @@ fn gather(slots: &[Slot], ready: &mut [Job]) -> usize
 {
     let mut n = 0;
     for k in 0..slots.len() {
-        let slot = slots[k];
         // written in any case, and counted if ready: the processor then has nothing to guess
         ready[n] = Job {
             task: k as u32,
-            age: slot.age,
+            age: slots[k].age,
         };
-        n += usize::from(slot.left > 0);
+        n += usize::from(slots[k].left > 0);
     }
     n
 }
