@@ -1,5 +1,7 @@
 ghost use mathlib.Core.Path.{_≡_};
 ghost use mathlib.Core.Bool.{Bool};
+ghost use denote.Ref.{now as behind};
+ghost use Rattle.std.specs.Options.{mapped};
 ghost use Rattle.schedules.specs.First.{«first-of», Distinct, ExclusiveOn, TransitiveOn, IsFirst};
 
 /// An order among items of any kind.
@@ -13,9 +15,9 @@ pub trait Order<T> {
 
 /// The first item of a list under an order, or none of an empty list.
 /// Where the items are distinct and the order is total and transitive on them, it precedes all others.
-pub fn first<T: Copy, R: Order<T>>(items: &[T], order: &R) -> Option<T>
-    ensures value { λ r. ⌜ r ≡ first-of (precedes (now (order .entry))) (now (items .entry)) ⌝ }
-    ensures precedes_all_others { λ r. ⌜ (Distinct (now (items .entry)) → ExclusiveOn (precedes (now (order .entry))) (now (items .entry)) → TransitiveOn (precedes (now (order .entry))) (now (items .entry)) → IsFirst (precedes (now (order .entry))) (now (items .entry)) r) ⌝ }
+pub fn first<'a, T, R: Order<T>>(items: &'a [T], order: &R) -> Option<&'a T>
+    ensures value { λ r. ⌜ mapped behind r ≡ first-of (precedes (now (order .entry))) (now (items .entry)) ⌝ }
+    ensures precedes_all_others { λ r. ⌜ (Distinct (now (items .entry)) → ExclusiveOn (precedes (now (order .entry))) (now (items .entry)) → TransitiveOn (precedes (now (order .entry))) (now (items .entry)) → IsFirst (precedes (now (order .entry))) (now (items .entry)) (mapped behind r)) ⌝ }
 {
     if items.is_empty() {
         return None;
@@ -26,5 +28,5 @@ pub fn first<T: Copy, R: Order<T>>(items: &[T], order: &R) -> Option<T>
             best = i;
         }
     }
-    Some(items[best])
+    Some(&items[best])
 }

@@ -42,9 +42,9 @@ fn serve<O: Ordering>(slots: &mut [Slot], ready: &mut [Job], ordering: &O) -> Op
     let n = gather(slots, ready);
     match first(&ready[0..n], ordering) {
         Some(j) => {
-            let k = j.task as usize;
-            slots[k].left -= 1;
-            Some(j.task)
+            let task = j.task;
+            slots[task as usize].left -= 1;
+            Some(task)
         }
         None => None,
     }
