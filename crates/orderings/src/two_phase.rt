@@ -1,7 +1,7 @@
 ghost use mathlib.Core.Path.{_≡_};
 ghost use Rattle.tables.specs.Tables.{«tasks-of»};
 ghost use Rattle.orderings.specs.TwoPhase.{«phase-key», «two-phase»};
-use crate::keys::key_precedes;
+use crate::keys::smaller_key;
 use crate::ordering::Ordering;
 use tables::table::Table;
 
@@ -33,6 +33,6 @@ pub impl Ordering for TwoPhase as TwoPhaseOrdering {
     ghost ahead = { λ o. two-phase (tasks-of (o .table)) };
 
     fn is_ahead(&self, i: u32, a: u32, j: u32, b: u32) -> bool {
-        key_precedes(self.key(i, a), i, self.key(j, b), j, i < j)
+        i != j && smaller_key(self.key(i, a), i, self.key(j, b), j, i < j)
     }
 }
