@@ -21,7 +21,7 @@ carriage-return = 13
 abbrev pub quote : ℕ
 quote = 34
 
--- a field reaches to the next comma, carriage return or the end of the text, within quotes too
+-- a field reaches to the next comma, carriage return or the end of the text, within quotes too; a line feed is part of it
 abbrev pub in-field : ℕ → Bool
 in-field b = not (eqb b comma || eqb b carriage-return)
 
@@ -57,10 +57,11 @@ between-quotes s = take (length s - 2) (drop 1 s)
 abbrev pub field-number : List ℕ → Option ℕ
 field-number s = cond (is-quoted s) (plain-number (between-quotes s)) (plain-number s)
 
--- the field at the place `at` of the text ends here
+-- where the field at the place `at` of the text ends
 abbrev pub field-end : List ℕ → ℕ → ℕ
 field-end text at = at + field-length (drop at text)
 
+-- its value and its end, or the fault that names its record and its number within the record
 abbrev pub field-by : ℕ → ℕ → ℕ → Option ℕ → Result Field FieldFault
 field-by row k end None = Err (record { row = row; field = k })
 field-by row k end (Some v) = Ok (record { value = v; end = end })

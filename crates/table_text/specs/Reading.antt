@@ -20,27 +20,31 @@ use Rattle.table_text.specs.Records.{Progress, progress, next-record}
 abbrev pub header : List ℕ
 header = codes "C,D,T,P1,P2,S"
 
--- the place behind the header and its end; none where the text does not begin with both
+-- The text begins with the header, in exactly these letters, and the header's end. This is the place behind both;
+-- none where anything else stands there. The header alone is the empty table.
 abbrev pub past-header : List ℕ → Option ℕ
 past-header text = cond (sameBytes header (take 13 text)) (past-end 13 (drop 13 text)) None
 
+-- a record's fault is the fault of the text
 abbrev pub after-record : Result Progress RecordFault → (Progress → Result (List Task) ReadRefusal) → Result (List Task) ReadRefusal
 after-record (Ok p) f = f p
 after-record (Err e) f = Err (Record e)
 
--- at most so many records, until the text ends
+-- Records until the text ends, at most so many. Behind a record's end either the text ends or the next record begins,
+-- so a blank line is a record whose first field is empty.
 unfoldable pub read-records : ℕ → List ℕ → Progress → Result (List Task) ReadRefusal
 read-records zero text p = Ok (p .tasks)
 read-records (suc n) text p =
     cond (leb (length text) (p .next)) (Ok (p .tasks))
     (after-record (next-record text p) (read-records n text))
 
--- 33 records are enough, since no table takes a 33rd task
+-- 33 records are enough, since each adds a task and no table takes a 33rd: that record is at fault
 abbrev pub read-after : List ℕ → Option ℕ → Result (List Task) ReadRefusal
 read-after text None = Err OtherHeader
 read-after text (Some start) = read-records 33 text (progress [] start)
 
--- the tasks of a table text, or why it is refused; at most 4,096 bytes
+-- The tasks of a table text, or why it is refused: first for more than 4,096 bytes, then for another header, then for a
+-- record.
 unfoldable pub read-table : List ℕ → Result (List Task) ReadRefusal
 read-table text = cond (ltb 4096 (length text)) (Err TextTooLong) (read-after text (past-header text))
 

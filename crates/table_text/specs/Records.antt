@@ -17,15 +17,17 @@ use Rattle.table_text.specs.declared.parts.TaskRecord.{TaskRecord}
 use Rattle.table_text.specs.Fields.{field-at}
 use Rattle.table_text.specs.Separators.{past-separator}
 
+-- the first fault ends a reading
 abbrev pub and-then : {A B E : Type 0} → Result A E → (A → Result B E) → Result B E
 and-then (Ok x) f = f x
 and-then (Err e) f = Err e
 
--- a field is checked first, and then what follows it
+-- where the right separator does not follow a field, the record has another shape
 abbrev pub ended-by : ℕ → ℕ → Option ℕ → Result Field RecordFault
 ended-by row v None = Err (fault.Shape row)
 ended-by row v (Some end) = Ok (record { value = v; end = end })
 
+-- a field is checked first, and then what follows it
 abbrev pub field-then-end : List ℕ → ℕ → ℕ → Result Field FieldFault → Result Field RecordFault
 field-then-end text row k (Err e) = Err (fault.Field e)
 field-then-end text row k (Ok f) = ended-by row (f .value) (past-separator k (f .end) (drop (f .end) text))
@@ -34,7 +36,7 @@ field-then-end text row k (Ok f) = ended-by row (f .value) (past-separator k (f 
 abbrev pub ended-field-at : List ℕ → ℕ → ℕ → ℕ → Result Field RecordFault
 ended-field-at text at row k = field-then-end text row k (field-at text at row k)
 
--- the record at the place `at`: C, D, T, P1, P2 and S
+-- the record at the place `at`: the fields C, D, T, P1, P2 and S, of which the first fault from the left is the record's
 abbrev pub record-at : List ℕ → ℕ → ℕ → Result TaskRecord RecordFault
 record-at text at row =
     and-then (ended-field-at text at row 1) (λ c.
@@ -68,7 +70,7 @@ progress ts at = record { tasks = ts; next = at }
 abbrev pub row-after : List Task → ℕ
 row-after ts = length ts + 2
 
--- the next record is read whole, and then its task is added
+-- the next record is read whole, with its end, and only then its task is added
 abbrev pub next-record : List ℕ → Progress → Result Progress RecordFault
 next-record text p =
     and-then (record-at text (p .next) (row-after (p .tasks))) (λ x.
