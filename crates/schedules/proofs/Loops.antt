@@ -1,17 +1,18 @@
 -- The loops of a unit.
 use mathlib.Core.Path.{_≡_, refl, sym, ap, subst, _∙_}
 use mathlib.Core.List.{List, [], _∷_, _++_, map, append-assoc}
-use mathlib.Core.Bool.{Bool, true, false, not, cond}
+use mathlib.Core.Bool.{Bool, true, false, not, cond, _||_}
 use mathlib.Core.Logic.{_≢_, _⊎_, inl, inr}
 use Prim.Native.Nat.{ℕ, zero, suc, _+_, _-_, _<_, _≤_}
 use native.Mathlib.Omega.{arith}
 use native.Mathlib.Nat.{add-zero}
 use native.Mathlib.Numerals.{add-one}
 use mir.Val.{boolByte}
+use borrow.Author.Count.{below-more}
 use lib.Dec.{ltb}
 use lib.ListN.{length, getD, set, take, drop}
 use Rattle.std.proofs.shelf.Lists.{ext-getD, length-map, getD-set-same, getD-set-other, take-set, take-more-set, at-drop-more, at-drop-all, append-nil}
-use Rattle.std.proofs.shelf.Tests.{cases-eq, cases-lt, cond-true, cond-false, true≢false, false≢true, lt-ltb, le-ltb}
+use Rattle.std.proofs.shelf.Tests.{cases-eq, cases-lt, cond-true, cond-false, true≢false, false≢true, lt-ltb, le-ltb, or-parts}
 use Rattle.std.specs.Options.{isSome}
 use Rattle.std.specs.declared.option.Option.{Option}
 use Rattle.std.specs.declared.option.Option.the-variants.{Some, None}
@@ -84,6 +85,12 @@ pub miss-passed : (p : ℕ → Bool) (k : ℕ) (m : Option ℕ) → m ≡ lowest
 miss-passed p k None e here = sym (lowest-passed p 0 k k (omega arith) (sym e) here) ∙ ap (lowest p 0) (sym (add-one k))
 miss-passed p k (Some i) e here = miss-kept p k (Some i) refl e
 
+-- no task so far has come to its period, nor has this one
+pub none-due-more : (q : ℕ → Bool) (due here : Bool) (k : ℕ) → (due ≡ false → (i : ℕ) → i < k → q i ≡ false) → here ≡ q k → (due || here) ≡ false → (i : ℕ) → i < k + 1 → q i ≡ false
+none-due-more q due here k before e none i h =
+    let parts = or-parts due here none in
+    below-more (λ n. q n ≡ false) k (before (parts .0)) (sym e ∙ parts .1) i h
+
 module _ (ss : List Slot) (i : ℕ) (jobs : List Job) (n : ℕ) (within : i < length ss) (room : n < length jobs)
     (so-far : take n jobs ++ ready-from i (drop i ss) ≡ ready-from 0 ss) where
   opened : ready-from i (drop i ss) ≡ cond (ltb 0 (at ss i .left)) (record { task = i; age = at ss i .age } ∷ ready-from (i + 1) (drop (i + 1) ss)) (ready-from (i + 1) (drop (i + 1) ss))
@@ -106,14 +113,14 @@ module _ (ss : List Slot) (i : ℕ) (jobs : List Job) (n : ℕ) (within : i < le
 
   -- the job is written in any case, and counted if it is ready
   pub ready-counted : (b : ℕ) → b ≡ boolByte (ltb 0 (at ss i .left))
-    → (b ≤ 1) × (take (n + b) (set jobs n (record { task = i; age = at ss i .age })) ++ ready-from (i + 1) (drop (i + 1) ss) ≡ ready-from 0 ss)
+      → (b ≤ 1) × (take (n + b) (set jobs n (record { task = i; age = at ss i .age })) ++ ready-from (i + 1) (drop (i + 1) ss) ≡ ready-from 0 ss)
   ready-counted b e =
       let j : Job = record { task = i; age = at ss i .age } in
       elim (cases-lt 0 (at ss i .left)) [
         | inl r ↦ let one : b ≡ 1 = e ∙ ap boolByte (lt-ltb 0 (at ss i .left) r) in
-          (omega arith, ap (λ k. take (n + k) (set jobs n j) ++ ready-from (i + 1) (drop (i + 1) ss)) one ∙ ready-yes r)
+            (omega arith, ap (λ k. take (n + k) (set jobs n j) ++ ready-from (i + 1) (drop (i + 1) ss)) one ∙ ready-yes r)
         | inr r ↦ let none : b ≡ 0 = e ∙ ap boolByte (le-ltb 0 (at ss i .left) r) in
-          (omega arith, ap (λ k. take (n + k) (set jobs n j) ++ ready-from (i + 1) (drop (i + 1) ss)) none ∙ ap (λ k. take k (set jobs n j) ++ ready-from (i + 1) (drop (i + 1) ss)) (add-zero n) ∙ ready-no r)
+            (omega arith, ap (λ k. take (n + k) (set jobs n j) ++ ready-from (i + 1) (drop (i + 1) ss)) none ∙ ap (λ k. take k (set jobs n j) ++ ready-from (i + 1) (drop (i + 1) ss)) (add-zero n) ∙ ready-no r)
       ]
 
 pub ready-all : (ss : List Slot) (i : ℕ) (jobs : List Job) (n : ℕ) → length ss ≤ i → take n jobs ++ ready-from i (drop i ss) ≡ ready-from 0 ss → take n jobs ≡ ready-from 0 ss

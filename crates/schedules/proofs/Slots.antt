@@ -8,7 +8,7 @@ use native.Mathlib.Omega.{arith}
 use lib.Dec.{ltb, eqb}
 use lib.ListN.{length, getD, set}
 use Rattle.std.specs.Iters.{counting}
-use Rattle.std.proofs.shelf.Lists.{getD-set-same, getD-set-other, set-past, getD-past, getD-map, length-map, length-set}
+use Rattle.std.proofs.shelf.Lists.{ext-getD, getD-set-same, getD-set-other, set-past, getD-past, getD-map, length-map, length-set}
 use Rattle.std.proofs.shelf.Counted.{getD-map-counting, length-map-counting}
 use Rattle.std.proofs.shelf.Tests.{cases-eq, cases-lt, eq-eqb, ne-eqb, cond-true, cond-false}
 use Rattle.std.specs.declared.option.Option.{Option}
@@ -67,3 +67,9 @@ lowest-none p q sub a (suc n) e =
       | false ↦ elim v as (λ v. P false v) [ true ↦ λ h e. grind arith | false ↦ λ h e. lowest-none p q sub (a + 1) n e ]
     ] in
     go (p a) (q a) (sub a) e
+
+-- where no task has come to its period, nothing is released
+pub renewed-same : (ts : List Task) (ss : List Slot) → ((k : ℕ) → k < length ss → eqb (at ss k .age) (getD ts k nobody .t) ≡ false) → renewed ts ss ≡ ss
+renewed-same ts ss none =
+    ext-getD nothing (renewed ts ss) ss (renewed-length ts ss)
+    (λ k h. let h′ : k < length ss = omega (arith, renewed-length ts ss) in renewed-at ts ss k h′ ∙ cond-false _ _ _ (none k h′))

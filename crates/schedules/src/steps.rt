@@ -1,5 +1,7 @@
 ghost use mathlib.Core.Path.{_≡_};
+ghost use mathlib.Core.Bool.{false};
 ghost use mathlib.Core.List.{map};
+ghost use lib.Dec.{eqb};
 ghost use Prim.Native.Nat.{ℕ, _+_, _^_, _<_, _≤_};
 ghost use lib.ListN.{length, getD, take};
 ghost use Rattle.std.specs.Options.{mapped};
@@ -57,22 +59,34 @@ fn is_late(task: &Task, slot: &Slot) -> bool
     slot.age == task.d && slot.left > 0
 }
 
-// Every age rises by one. The lowest task that thereby comes to its deadline with units left.
-fn grow(tasks: &[Task], slots: &mut [Slot]) -> Option<u32>
+// What the ages of a unit bring.
+#[derive(Clone, Copy)]
+struct Grown {
+    // the lowest task that missed
+    miss: Option<u32>,
+    // whether some task has come to its period
+    due: bool,
+}
+
+// Every age rises by one.
+fn grow(tasks: &[Task], slots: &mut [Slot]) -> Grown
     requires few { ⌜ length (now slots) ≤ 32 ⌝ }
     requires long { ⌜ length (now slots) ≤ length (now tasks) ⌝ }
     requires young { ⌜ ((k : ℕ) → k < length (now slots) → at (now slots) k .age + 1 < 2 ^ 32) ⌝ }
     ensures after { λ _. ⌜ now (slots .exit) ≡ map older (now (slots .entry)) ⌝ }
-    ensures miss { λ r. ⌜ r ≡ missed (now (tasks .entry)) (map older (now (slots .entry))) ⌝ }
+    ensures miss { λ r. ⌜ r .miss ≡ missed (now (tasks .entry)) (map older (now (slots .entry))) ⌝ }
+    ensures due { λ r. ⌜ (r .due ≡ false → (k : ℕ) → k < length (now (slots .entry)) → eqb (at (now (slots .exit)) k .age) (getD (now (tasks .entry)) k nobody .t) ≡ false) ⌝ }
 {
     let mut miss = None;
+    let mut due = false;
     for k in 0..slots.len() {
         slots[k].age += 1;
         if is_late(&tasks[k], &slots[k]) && miss.is_none() {
             miss = Some(k as u32);
         }
+        due = due | (slots[k].age == tasks[k].t);
     }
-    miss
+    Grown { miss, due }
 }
 
 // Each task of age T gets its next job, of age 0 and with its whole budget.
@@ -96,11 +110,11 @@ fn advance(tasks: &[Task], slots: &mut [Slot]) -> Option<u32>
     ensures miss { λ r. ⌜ r ≡ missed (now (tasks .entry)) (map older (now (slots .entry))) ⌝ }
     ensures after { λ r. ⌜ now (slots .exit) ≡ advanced (now (tasks .entry)) (now (slots .entry)) .slots ⌝ }
 {
-    let miss = grow(tasks, slots);
-    if miss.is_none() {
+    let grown = grow(tasks, slots);
+    if grown.due && grown.miss.is_none() {
         release(tasks, slots);
     }
-    miss
+    grown.miss
 }
 
 // One unit on the slots of all tasks: who ran and who missed.

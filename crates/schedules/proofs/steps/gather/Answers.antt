@@ -9,6 +9,6 @@ loop-k-again c =
 
 pub returns : need.returns
 returns c = record {
-    jobs = ready-all (c .args .slots .now) (c .loop-k .k) (c .loop-k .ready) (c .loop-k .n) (c .loop-k-test .left) (c .loop-k .inv .1);
-    bound = omega arith;
+  jobs = ready-all (c .args .slots .now) (c .loop-k .k) (c .loop-k .ready) (c .loop-k .n) (c .loop-k-test .left) (c .loop-k .inv .1);
+  bound = omega arith;
 }
