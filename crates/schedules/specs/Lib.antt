@@ -2,3 +2,4 @@ pub mod First
 pub mod Units
 pub mod Runs
 pub mod Schedule
+pub mod Views

@@ -1,3 +1,4 @@
+pub mod calls;
 pub mod job;
 pub mod order;
 pub mod run;

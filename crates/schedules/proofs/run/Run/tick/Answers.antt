@@ -32,6 +32,7 @@ returns-then-is-some g c =
       answer = tick-answers (tasks-of t) (s .progress) (tasks-few t) (s .wide) (c .if-self .left) (t .timed) (s .young) m (u .result .0) (u .result .1) (u .last .slots) (c .tasks .result .now) (c .tasks .ensures) st;
       after = tick-after (tasks-of t) (s .progress) (tasks-few t) (s .wide) (c .if-self .left) (t .timed) (s .young) m (u .result .0) (u .result .1) (u .last .slots) (c .tasks .result .now) (c .tasks .ensures) st true (c .if-is-some .ensures tt);
       serves-the-job-ahead-of-all-ready = tick-serves (tasks-of t) (s .progress) (tasks-few t) (s .wide) (c .if-self .left) (t .timed) (s .young) m (u .result .0) (u .result .1) (u .last .slots) (c .tasks .result .now) (c .tasks .ensures) st (g .O·Ordering·met .exclusive o) (g .O·Ordering·met .transitive o);
+      same-if-refused = tt;
       keeps-table = refl;
       keeps-ordering = refl;
     }
@@ -49,6 +50,7 @@ returns-else-is-some g c =
       answer = tick-answers (tasks-of t) (s .progress) (tasks-few t) (s .wide) (c .if-self .left) (t .timed) (s .young) m (u .result .0) (u .result .1) (u .last .slots) (c .tasks .result .now) (c .tasks .ensures) st;
       after = tick-after (tasks-of t) (s .progress) (tasks-few t) (s .wide) (c .if-self .left) (t .timed) (s .young) m (u .result .0) (u .result .1) (u .last .slots) (c .tasks .result .now) (c .tasks .ensures) st (s .progress .ended) (c .if-self .left ∙ c .if-is-some .ensures tt);
       serves-the-job-ahead-of-all-ready = tick-serves (tasks-of t) (s .progress) (tasks-few t) (s .wide) (c .if-self .left) (t .timed) (s .young) m (u .result .0) (u .result .1) (u .last .slots) (c .tasks .result .now) (c .tasks .ensures) st (g .O·Ordering·met .exclusive o) (g .O·Ordering·met .transitive o);
+      same-if-refused = tt;
       keeps-table = refl;
       keeps-ordering = refl;
     }

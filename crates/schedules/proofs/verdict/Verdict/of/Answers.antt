@@ -15,17 +15,18 @@ use Rattle.tables.specs.Tables.{tasks-of}
 use Rattle.tables.specs.Hyperperiod.{hyperperiod-of}
 use Rattle.tables.proofs.Counted.{positive}
 use Rattle.tables.proofs.Multiples.{hyper-pos}
-use Rattle.schedules.specs.Runs.{State, state-of, tick-answer, tick-miss, ticked}
+use Rattle.schedules.specs.Runs.{State, tick-answer, ticked}
+use Rattle.schedules.specs.Views.{state-of-run}
 use Rattle.schedules.specs.Schedule.{full, full-miss, judged, verdict-of}
 use Rattle.schedules.proofs.Endless.{going, never-misses}
 use Rattle.schedules.proofs.Judged.{answer-miss, answer-refused, judged-miss, judged-more, judged-end, miss-next, full-next}
 use Rattle.schedules.proofs.verdict.Verdict.of.Needs as need
 
 -- a call on the run is that call on the full schedule's state
-same-call : {O Y : Type 0} (ahead : O → Meaning) (F : List Task → Meaning → State → Y) (t t′ : Table) (o o′ : O) (p : Progress) (st : State)
-    → t′ ≡ t → o′ ≡ o → state-of (tasks-of t) p ≡ st → F (tasks-of t′) (ahead o′) (state-of (tasks-of t′) p) ≡ F (tasks-of t) (ahead o) st
-same-call ahead F t t′ o o′ p st et eo es =
-    ap (λ u. F (tasks-of u) (ahead o′) (state-of (tasks-of u) p)) et ∙ ap (λ u. F (tasks-of t) (ahead u) (state-of (tasks-of t) p)) eo ∙ ap (F (tasks-of t) (ahead o)) es
+same-call : {O Y : Type 0} (ahead : O → Meaning) (F : List Task → Meaning → State → Y) (t t′ : Table) (o o′ : O) (st st′ : State)
+    → t′ ≡ t → o′ ≡ o → st′ ≡ st → F (tasks-of t′) (ahead o′) st′ ≡ F (tasks-of t) (ahead o) st
+same-call ahead F t t′ o o′ st st′ et eo es =
+    ap (λ u. F (tasks-of u) (ahead o′) st′) et ∙ ap (λ u. F (tasks-of t) (ahead u) st′) eo ∙ ap (F (tasks-of t) (ahead o)) es
 
 none-more : (ts : List Task) (m : Meaning) (n : ℕ) → ((k : ℕ) → k ≤ n → full-miss ts m k ≡ None) → full-miss ts m (n + 1) ≡ None → (k : ℕ) → k ≤ n + 1 → full-miss ts m k ≡ None
 none-more ts m n before here k h = elim (cases-lt n k) [
@@ -56,7 +57,7 @@ returns-in-Some g c =
     let inv = c .loop-n .inv in
     let on = going ts m (t .timed) n (inv .3) .on in
     let miss = answer-miss ts m (full ts m n) _ (c .in-Ok .miss) on
-    (c .in-Ok .ensures tt .answer ∙ same-call ahead tick-answer t (run .table .now) (c .args .ordering .now) (run .ordering .now) (run .progress) (full ts m n) (inv .0) (inv .1) (inv .2)) ∙ c .in-Some .is in
+    (c .in-Ok .ensures tt .answer ∙ same-call ahead tick-answer t (run .table .now) (c .args .ordering .now) (run .ordering .now) (full ts m n) (state-of-run run) (inv .0) (inv .1) (inv .2)) ∙ c .in-Some .is in
     record {
       value = sym (judged-miss ts m (c .hyperperiod-n-end .result) n (full ts m n) (c .in-Some .task) (c .loop-n-test .taken) miss) ∙ inv .4;
       says-of-the-endless-schedule = (miss-next ts m n ∙ miss, λ k h. inv .3 k (omega arith));
@@ -73,7 +74,7 @@ unreachable-requires g c κs =
     let inv = c .loop-n .inv in
     let on = going ts m (t .timed) n (inv .3) .on in
     answer-refused ts m (full ts m n) _ on
-    (c .in-Err .ensures tt .answer ∙ same-call ahead tick-answer t (run .table .now) (c .args .ordering .now) (run .ordering .now) (run .progress) (full ts m n) (inv .0) (inv .1) (inv .2))
+    (c .in-Err .ensures tt .answer ∙ same-call ahead tick-answer t (run .table .now) (c .args .ordering .now) (run .ordering .now) (full ts m n) (state-of-run run) (inv .0) (inv .1) (inv .2))
 
 pub loop-n-again : need.loop-n-again
 loop-n-again g c =
@@ -87,10 +88,10 @@ loop-n-again g c =
     let e = c .in-Ok .ensures tt in
     let on = going ts m (t .timed) n (inv .3) .on in
     let miss = answer-miss ts m (full ts m n) _ (c .in-Ok .miss) on
-    (e .answer ∙ same-call ahead tick-answer t (run .table .now) (c .args .ordering .now) (run .ordering .now) (run .progress) (full ts m n) (inv .0) (inv .1) (inv .2)) ∙ c .in-rest .is in
-    let state : state-of ts (c .tick .last .self .progress) ≡ full ts m (n + 1) =
-    ap (λ u. state-of (tasks-of u) (c .tick .last .self .progress)) (sym (inv .0)) ∙ e .after
-    ∙ same-call ahead ticked t (run .table .now) (c .args .ordering .now) (run .ordering .now) (run .progress) (full ts m n) (inv .0) (inv .1) (inv .2)
+    (e .answer ∙ same-call ahead tick-answer t (run .table .now) (c .args .ordering .now) (run .ordering .now) (full ts m n) (state-of-run run) (inv .0) (inv .1) (inv .2)) ∙ c .in-rest .is in
+    let state : state-of-run (c .tick .last .self) ≡ full ts m (n + 1) =
+    e .after
+    ∙ same-call ahead ticked t (run .table .now) (c .args .ordering .now) (run .ordering .now) (full ts m n) (state-of-run run) (inv .0) (inv .1) (inv .2)
     ∙ sym (full-next ts m n) in (
       ap now (e .keeps-table) ∙ inv .0,
       ap now (e .keeps-ordering) ∙ inv .1,
