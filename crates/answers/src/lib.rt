@@ -1,5 +1,6 @@
 pub mod answer;
 mod columns;
+pub mod input;
 pub mod judging;
 pub mod printed;
 pub mod printing;

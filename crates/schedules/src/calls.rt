@@ -15,9 +15,9 @@ use refusals::kinds::QuestionRefusal;
 use refusals::kinds::TickRefusal;
 use tables::table::Table;
 
-impl<'a, O: Ordering> Run<'a, O> {
+impl<'t, 'o, O: Ordering> Run<'t, 'o, O> {
     /// A new run: every age is 0, and every task has its budget left.
-    pub fn new(table: &'a Table, ordering: &'a O) -> Run<'a, O>
+    pub fn new(table: &'t Table, ordering: &'o O) -> Run<'t, 'o, O>
         ensures state { λ r. ⌜ state-of-run r ≡ fresh (tasks-of (now (table .entry))) ⌝ }
         ensures keeps_table { λ r. ⌜ table-of-run r ≡ now (table .entry) ⌝ }
         ensures keeps_ordering { λ r. ⌜ ordering-of-run r ≡ now (ordering .entry) ⌝ }

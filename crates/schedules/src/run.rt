@@ -9,9 +9,9 @@ use tables::table::Table;
 
 /// A run of a table under an ordering, both borrowed and kept as they are.
 #[derive(Drop)]
-pub struct Run<'a, O> {
-    pub(crate) table: &'a Table,
-    pub(crate) ordering: &'a O,
+pub struct Run<'t, 'o, O> {
+    pub(crate) table: &'t Table,
+    pub(crate) ordering: &'o O,
     pub(crate) progress: Progress,
     // room to gather the ready jobs of a unit; what it holds between ticks means nothing
     pub(crate) ready: [Job; 32],

@@ -23,7 +23,7 @@ pub enum Verdict {
 
 impl Verdict {
     /// The verdict on a table under an ordering, from at most one hyperperiod of the full schedule.
-    pub fn of<'a, O: Ordering>(table: &'a Table, ordering: &'a O) -> Verdict
+    pub fn of<O: Ordering>(table: &Table, ordering: &O) -> Verdict
         ensures value { λ r. ⌜ r ≡ verdict-of (tasks-of (now (table .entry))) (ahead (now (ordering .entry))) ⌝ }
         ensures says_of_the_endless_schedule { λ r. ⌜ SaysOfEndless (tasks-of (now (table .entry))) (ahead (now (ordering .entry))) r ⌝ }
     {
