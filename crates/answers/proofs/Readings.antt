@@ -1,5 +1,5 @@
 -- The answer by what was read and what the verdict says.
-use mathlib.Core.Path.{_≡_, refl, sym, ap, subst, _∙_}
+use mathlib.Core.Path.{_≡_, sym, ap, subst, _∙_}
 use mathlib.Core.List.{List}
 use Prim.Native.Nat.{ℕ}
 use native.Mathlib.Omega.{arith}
@@ -9,12 +9,12 @@ use Rattle.refusals.specs.declared.kinds.ReadRefusal.{ReadRefusal}
 use Rattle.tables.specs.declared.task.Task.{Task}
 use Rattle.tables.specs.declared.table.Table.{Table}
 use Rattle.tables.specs.Tables.{tasks-of}
-use Rattle.tables.specs.Hyperperiod.{hyperperiod-of, LeastCommonMultiple}
+use Rattle.tables.specs.Hyperperiod.{hyperperiod-of}
 use Rattle.table_text.specs.Reading.{read-table, answer-by, tasks-by}
 use Rattle.orderings.specs.TwoPhase.{two-phase}
 use Rattle.schedules.specs.declared.verdict.Verdict.{Verdict}
 use Rattle.schedules.specs.Schedule.{verdict-of, SaysOfEndless}
-use Rattle.answers.specs.Answers.{answer-by-verdict, answer-by-reading, answer-to, TrueOf}
+use Rattle.answers.specs.Answers.{answer-by-verdict, answer-by-reading, answer-to}
 
 -- a reading that is done read the tasks that the target then has
 pub read-done : (r : Result (List Task) ReadRefusal) (u : Unit {0}) (ts us : List Task) → Ok u ≡ answer-by r → us ≡ tasks-by ts r → r ≡ Ok us

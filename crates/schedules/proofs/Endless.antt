@@ -1,16 +1,14 @@
 -- One hyperperiod without a miss brings the full schedule back to the new run, so it never misses.
-use mathlib.Core.Path.{_≡_, refl, sym, ap, subst, _∙_}
-use mathlib.Core.List.{List, [], _∷_, map}
-use mathlib.Core.Bool.{Bool, true, false, cond}
+use mathlib.Core.Path.{_≡_, refl, sym, ap, _∙_}
+use mathlib.Core.List.{List, map}
+use mathlib.Core.Bool.{false, cond}
 use mathlib.Core.Logic.{inl, inr}
-use Prim.Native.Nat.{ℕ, zero, suc, _+_, _-_, _*_, _/_, _%_, _<_, _≤_, _∣_}
+use Prim.Native.Nat.{ℕ, zero, suc, _+_, _-_, _%_, _<_, _≤_}
 use native.Mathlib.Nat.{suc-mod, mod-self, mod-eq-of-lt, mod-lt, mod-eq-zero-of-dvd, zero-mod, zero-add, suc-add}
 use native.Mathlib.Omega.{arith}
 use lib.Dec.{eqb}
 use lib.ListN.{length, getD}
-use Rattle.std.specs.Options.{isSome}
-use Rattle.std.specs.declared.option.Option.{Option}
-use Rattle.std.specs.declared.option.Option.the-variants.{Some, None}
+use Rattle.std.specs.declared.option.Option.the-variants.{None}
 use Rattle.std.proofs.shelf.Lists.{length-map, ext-getD, getD-map}
 use Rattle.std.proofs.shelf.Tests.{cases-eq, cases-lt, cond-true, cond-false, eq-eqb, ne-eqb}
 use Rattle.std.proofs.shelf.Ways.{tells}
@@ -20,7 +18,7 @@ use Rattle.tables.specs.Hyperperiod.{CommonMultiple}
 use Rattle.orderings.specs.Meaning.{Meaning}
 use Rattle.schedules.specs.declared.slot.Slot.{Slot}
 use Rattle.schedules.specs.Units.{nothing, at, picked, served, older, missed, renew, renewed, released}
-use Rattle.schedules.specs.Runs.{State, fresh, closed, advanced, ticked, tick-miss}
+use Rattle.schedules.specs.Runs.{State, fresh, ticked, tick-miss}
 use Rattle.schedules.specs.Schedule.{full, full-miss, NeverMisses}
 use Rattle.schedules.proofs.Slots.{older-at, renewed-at, renewed-length}
 use Rattle.schedules.proofs.Served.{spent-length, spent-age}

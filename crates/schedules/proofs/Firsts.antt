@@ -2,18 +2,17 @@
 use mathlib.Core.Path.{_≡_, refl, sym, ap, subst, _∙_}
 use mathlib.Core.List.{List, [], _∷_}
 use mathlib.Core.Bool.{Bool, true, false, not, cond}
-use mathlib.Core.Logic.{_≢_, _⊎_, inl, inr}
+use mathlib.Core.Logic.{_≢_, inl, inr}
 use Prim.Native.Nat.{ℕ, _<_, _+_}
 use native.Mathlib.Omega.{arith}
 use lib.ListN.{length, getD, take}
 use Rattle.std.specs.Iters.{folded}
-use Rattle.std.specs.declared.option.Option.{Option}
 use Rattle.std.specs.declared.option.Option.the-variants.{Some, None}
 use Rattle.std.specs.shelf.Lists.{All}
 use Rattle.std.proofs.shelf.Lists.{getD-default}
 use Rattle.std.proofs.shelf.Tests.{cond-true, cond-false}
 use Rattle.std.proofs.shelf.Sums.{folded-more}
-use Rattle.schedules.specs.First.{better, first-of, In, Distinct, ExclusiveOn, TransitiveOn, Leads, IsFirst}
+use Rattle.schedules.specs.First.{better, first-of, In, Distinct, ExclusiveOn, TransitiveOn, IsFirst}
 
 pub all-in : {X : Type 0} (P : X → Type 0) (xs : List X) (y : X) → All P xs → In y xs → P y
 all-in P [] y all here = absurd here

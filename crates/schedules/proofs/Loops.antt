@@ -1,8 +1,8 @@
 -- The loops of a unit.
 use mathlib.Core.Path.{_≡_, refl, sym, ap, subst, _∙_}
 use mathlib.Core.List.{List, [], _∷_, _++_, map, append-assoc}
-use mathlib.Core.Bool.{Bool, true, false, not, cond, _||_}
-use mathlib.Core.Logic.{_≢_, _⊎_, inl, inr}
+use mathlib.Core.Bool.{Bool, true, false, cond, _||_}
+use mathlib.Core.Logic.{_≢_, inl, inr}
 use Prim.Native.Nat.{ℕ, zero, suc, _+_, _-_, _<_, _≤_}
 use native.Mathlib.Omega.{arith}
 use native.Mathlib.Nat.{add-zero}
@@ -10,7 +10,7 @@ use native.Mathlib.Numerals.{add-one}
 use mir.Val.{boolByte}
 use borrow.Author.Count.{below-more}
 use lib.Dec.{ltb}
-use lib.ListN.{length, getD, set, take, drop}
+use lib.ListN.{length, set, take, drop}
 use Rattle.std.proofs.shelf.Lists.{ext-getD, length-map, getD-set-same, getD-set-other, take-set, take-more-set, at-drop-more, at-drop-all, append-nil}
 use Rattle.std.proofs.shelf.Tests.{cases-eq, cases-lt, cond-true, cond-false, true≢false, false≢true, lt-ltb, le-ltb, or-parts}
 use Rattle.std.specs.Options.{isSome}

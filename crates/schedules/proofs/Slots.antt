@@ -1,23 +1,20 @@
 -- the slots after each step of a tick, place by place
-use mathlib.Core.Path.{_≡_, refl, sym, ap, subst, _∙_}
-use mathlib.Core.List.{List, [], _∷_, map}
-use mathlib.Core.Bool.{Bool, true, false, not, cond, _&&_}
-use mathlib.Core.Logic.{_≢_, _⊎_, inl, inr}
+use mathlib.Core.Path.{_≡_, refl, sym, ap, _∙_}
+use mathlib.Core.List.{List, map}
+use mathlib.Core.Bool.{Bool, true, false, cond}
+use mathlib.Core.Logic.{_≢_, inl, inr}
 use Prim.Native.Nat.{ℕ, zero, suc, _+_, _-_, _<_, _≤_}
 use native.Mathlib.Omega.{arith}
-use lib.Dec.{ltb, eqb}
+use lib.Dec.{eqb}
 use lib.ListN.{length, getD, set}
-use Rattle.std.specs.Iters.{counting}
-use Rattle.std.proofs.shelf.Lists.{ext-getD, getD-set-same, getD-set-other, set-past, getD-past, getD-map, length-map, length-set}
+use Rattle.std.proofs.shelf.Lists.{ext-getD, getD-set-same, getD-set-other, set-past, getD-past, getD-map, length-map}
 use Rattle.std.proofs.shelf.Counted.{getD-map-counting, length-map-counting}
 use Rattle.std.proofs.shelf.Tests.{cases-eq, cases-lt, eq-eqb, ne-eqb, cond-true, cond-false}
-use Rattle.std.specs.declared.option.Option.{Option}
 use Rattle.std.specs.declared.option.Option.the-variants.{Some, None}
 use Rattle.tables.specs.declared.task.Task.{Task}
 use Rattle.schedules.specs.declared.slot.Slot.{Slot}
-use Rattle.schedules.specs.declared.job.Job.{Job}
 use Rattle.tables.specs.Tasks.{nobody}
-use Rattle.schedules.specs.Units.{nothing, at, spent, older, renew, renewed, lowest}
+use Rattle.schedules.specs.Units.{nothing, at, older, renew, renewed, lowest}
 
 -- a write to one place, that keeps the age
 module _ (ss : List Slot) (i : ℕ) (f : ℕ → ℕ) (none : f 0 ≡ 0) where

@@ -1,10 +1,9 @@
 -- A run's memory and the state that it stands for.
 use mathlib.Core.Path.{_≡_, refl, sym, ap, subst, _∙_}
-use mathlib.Core.List.{List, [], _∷_, map}
-use mathlib.Core.Bool.{Bool, true, false, not, cond}
+use mathlib.Core.List.{List, map}
+use mathlib.Core.Bool.{Bool, true, false}
 use Prim.Native.Nat.{ℕ, _+_, _<_, _≤_, _^_}
 use native.Mathlib.Omega.{arith}
-use lib.Dec.{ltb, eqb}
 use lib.ListN.{length, getD, take}
 use Rattle.std.specs.Options.{mapped, isSome}
 use Rattle.std.proofs.shelf.Lists.{length-take-le, getD-take, length-map, ext-getD, getD-map}
@@ -12,14 +11,14 @@ use Rattle.std.proofs.shelf.Tests.{lt-ltb, false≢true}
 use Rattle.std.proofs.shelf.Ways.{tells}
 use Rattle.std.specs.declared.option.Option.{Option}
 use Rattle.std.specs.declared.option.Option.the-variants.{Some, None}
-use Rattle.std.specs.declared.result.Result.the-variants.{Ok, Err}
+use Rattle.std.specs.declared.result.Result.the-variants.{Ok}
 use Rattle.tables.specs.declared.task.Task.{Task}
 use Rattle.tables.specs.Tasks.{nobody, Each, Timed}
 use Rattle.orderings.specs.Meaning.{Meaning, Exclusive, Transitive}
 use Rattle.schedules.specs.declared.slot.Slot.{Slot}
 use Rattle.schedules.specs.declared.slot.Progress.{Progress}
 use Rattle.schedules.specs.Units.{nothing, at, picked, served, older, missed, renew, renewed, released, AheadOfAllReady}
-use Rattle.schedules.specs.Runs.{State, state-of, Young, closed, advanced, ticked, tick-answer, age-answer, left-answer}
+use Rattle.schedules.specs.Runs.{state-of, Young, closed, advanced, ticked, tick-answer, age-answer, left-answer}
 use Rattle.schedules.proofs.Slots.{older-at, renewed-at}
 use Rattle.schedules.proofs.Served.{spent-length, spent-age}
 use Rattle.schedules.proofs.Picks.{Counted, picked-ahead}

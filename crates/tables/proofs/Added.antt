@@ -1,5 +1,5 @@
 -- The first condition that an added task breaks, and what the bounds' tests say.
-use Prim.Native.Nat.{ℕ, _<_, _≤_}
+use Prim.Native.Nat.{_<_, _≤_}
 use native.Mathlib.Omega.{arith}
 use mathlib.Core.Path.{_≡_, sym, ap, subst}
 use mathlib.Core.Bool.{true, false}
@@ -8,7 +8,7 @@ use mathlib.Core.List.{List, [], _∷_, _++_}
 use lib.Dec.{leb}
 use lib.ListN.{length}
 use Rattle.std.specs.declared.option.Option.the-variants.{Some, None}
-use Rattle.std.specs.declared.result.Result.the-variants.{Ok, Err}
+use Rattle.std.specs.declared.result.Result.the-variants.{Err}
 use Rattle.std.proofs.shelf.Lists.{getD-append-left, getD-push, length-push}
 use Rattle.std.proofs.shelf.Tests.{le-leb, lt-leb, lt-ltb, le-ltb, cases-lt, and-parts, leb-true}
 use Rattle.refusals.specs.declared.kinds.AddRefusal.{AddRefusal}

@@ -1,12 +1,8 @@
 -- Euclid's algorithm gives a common divisor that every common divisor divides; the least common multiple.
-use Prim.Native.Nat.{ℕ, zero, suc, _+_, _-_, _*_, _/_, _%_, _<_, _≤_, _∣_}
-use native.Mathlib.Nat.{mod-lt, dvd-refl, dvd-zero, dvd-mod-iff, dvd-sub, dvd-trans, dvd-mul-right-of-dvd, dvd-mul-left-of-dvd, dvd-mul-left, dvd-mul-right, mod-def, mul-sub, mul-assoc, mul-comm, mul-dvd-mul-left, mul-dvd-mul-right, dvd-of-mul-dvd-mul-right, div-mul-cancel, pos-of-dvd-of-pos, mul-one, mul-pos}
+use Prim.Native.Nat.{ℕ, zero, suc, _-_, _*_, _/_, _%_, _<_, _≤_, _∣_}
+use native.Mathlib.Nat.{mod-lt, dvd-refl, dvd-zero, dvd-mod-iff, dvd-sub, dvd-mul-right-of-dvd, dvd-mul-left, dvd-mul-right, mod-def, mul-sub, mul-assoc, mul-comm, mul-dvd-mul-left, mul-dvd-mul-right, dvd-of-mul-dvd-mul-right, div-mul-cancel, pos-of-dvd-of-pos, mul-pos}
 use native.Mathlib.Omega.{arith}
 use mathlib.Core.Path.{_≡_, refl, sym, _∙_, ap, subst}
-use mathlib.Core.Bool.{Bool, true, false, cond}
-use mathlib.Core.Logic.{_↔_, inl, inr}
-use lib.Dec.{eqb}
-use Rattle.std.proofs.shelf.Tests.{eqb-true, eqb-false, eq-eqb, ne-eqb, cond-true, cond-false, cases-eq}
 use Rattle.tables.specs.Divisors.{gcd-within, gcd, lcm}
 
 -- more turns change nothing

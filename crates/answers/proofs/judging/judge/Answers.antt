@@ -1,4 +1,3 @@
-use mathlib.Core.Path.{sym}
 use Rattle.tables.specs.Tables.{tasks-of}
 use Rattle.table_text.specs.Reading.{read-table}
 use Rattle.schedules.specs.declared.verdict.Verdict.the-variants.{Holds, Misses}

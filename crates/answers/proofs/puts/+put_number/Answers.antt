@@ -1,8 +1,8 @@
-use Prim.Native.Nat.{ℕ, suc, _+_, _-_, _/_, _%_, _^_, _<_, _≤_}
+use Prim.Native.Nat.{_+_, _-_, _/_, _%_}
 use native.Mathlib.Omega.{arith}
-use mathlib.Core.Path.{_≡_, refl, sym, _∙_, ap, subst}
+use mathlib.Core.Path.{sym, ap}
 use mathlib.Core.List.{[], _∷_, _++_}
-use lib.ListN.{length, set}
+use lib.ListN.{length}
 use Rattle.std.specs.Written.{decimal}
 use Rattle.std.proofs.shelf.Decimals.{decimal-digit, decimal-step}
 use Rattle.answers.proofs.Writes.{put-byte, put-then, put-as, length-decimal-step}

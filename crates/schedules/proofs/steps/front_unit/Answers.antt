@@ -1,11 +1,8 @@
-use mathlib.Core.Path.{_≡_, sym, ap, _∙_}
-use Prim.Native.Nat.{_+_, _<_, _^_}
+use mathlib.Core.Path.{_∙_}
 use native.Mathlib.Omega.{arith}
-use borrow.Author.Needs.{needs}
-use lib.ListN.{length, take}
+use lib.ListN.{length}
 use Rattle.std.proofs.shelf.Lists.{length-take-le, getD-take, take-at}
-use Rattle.std.proofs.shelf.Parts.{overwrites}
-use Rattle.schedules.specs.Units.{at, nothing}
+use Rattle.schedules.specs.Units.{nothing}
 use Rattle.schedules.proofs.steps.front_unit.Needs as need
 
 pub unit-requires : need.unit-requires

@@ -1,14 +1,13 @@
-use Prim.Native.Nat.{ℕ, _+_, _<_, _^_}
+use Prim.Native.Nat.{ℕ, _+_, _<_}
 use mathlib.Core.Path.{_≡_, sym, ap, _∙_}
-use mathlib.Core.Bool.{Bool, true, false, not}
+use mathlib.Core.Bool.{Bool, not}
 use mathlib.Core.List.{map}
 use native.Mathlib.Omega.{arith}
 use lib.Dec.{eqb}
-use lib.ListN.{length, getD, set}
-use Rattle.std.specs.Options.{isSome}
+use lib.ListN.{length, getD}
 use Rattle.std.proofs.shelf.Lists.{length-map}
 use Rattle.tables.specs.Tasks.{nobody}
-use Rattle.schedules.specs.Units.{at, older, late, lowest, missed}
+use Rattle.schedules.specs.Units.{at, older, late, lowest}
 use Rattle.schedules.proofs.Slots.{older-at}
 use Rattle.schedules.proofs.Loops.{grown, grown-more, grown-rest, grown-here, lowest-same, miss-kept, miss-found, miss-passed, none-due-more}
 use Rattle.schedules.proofs.steps.grow.Needs as need

@@ -1,6 +1,6 @@
-use mathlib.Core.Path.{_≡_, ap, _∙_}
+use mathlib.Core.Path.{ap, _∙_}
 use mathlib.Core.List.{_++_}
-use Rattle.answers.specs.Texts.{header-text, columns-text, columns-of}
+use Rattle.answers.specs.Texts.{header-text, columns-text}
 use Rattle.answers.proofs.Writes.{put-then}
 use Rattle.answers.proofs.printed.Printed.of.Needs as need
 

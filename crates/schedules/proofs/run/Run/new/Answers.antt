@@ -2,7 +2,6 @@ use mathlib.Core.Path.{refl, ap}
 use mathlib.Core.Bool.{false}
 use Rattle.tables.specs.Tables.{tasks-of}
 use Rattle.tables.proofs.Counted.{tasks-few}
-use Rattle.schedules.specs.Runs.{State}
 use Rattle.schedules.proofs.Viewed.{new-state}
 use Rattle.schedules.proofs.run.Run.new.Needs as need
 

@@ -1,4 +1,4 @@
-use mathlib.Core.Path.{_≡_, refl, _∙_}
+use mathlib.Core.Path.{refl, _∙_}
 use mathlib.Core.Bool.{true}
 use Rattle.tables.specs.Tables.{tasks-of}
 use Rattle.tables.proofs.Counted.{tasks-few}

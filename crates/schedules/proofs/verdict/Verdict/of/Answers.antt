@@ -1,7 +1,6 @@
-use mathlib.Core.Path.{_≡_, refl, sym, ap, subst, _∙_}
-use mathlib.Core.Bool.{false}
+use mathlib.Core.Path.{_≡_, sym, ap, _∙_}
 use mathlib.Core.Logic.{inl, inr}
-use Prim.Native.Nat.{ℕ, zero, suc, _+_, _-_, _<_, _≤_}
+use Prim.Native.Nat.{ℕ, _+_, _-_, _≤_}
 use native.Mathlib.Omega.{arith}
 use denote.Ref.{now}
 use mathlib.Core.List.{List}
@@ -9,15 +8,14 @@ use Rattle.std.proofs.shelf.Tests.{cases-lt}
 use Rattle.tables.specs.declared.task.Task.{Task}
 use Rattle.tables.specs.declared.table.Table.{Table}
 use Rattle.orderings.specs.Meaning.{Meaning}
-use Rattle.schedules.specs.declared.slot.Progress.{Progress}
-use Rattle.std.specs.declared.option.Option.the-variants.{Some, None}
+use Rattle.std.specs.declared.option.Option.the-variants.{None}
 use Rattle.tables.specs.Tables.{tasks-of}
 use Rattle.tables.specs.Hyperperiod.{hyperperiod-of}
 use Rattle.tables.proofs.Counted.{positive}
 use Rattle.tables.proofs.Multiples.{hyper-pos}
 use Rattle.schedules.specs.Runs.{State, tick-answer, ticked}
 use Rattle.schedules.specs.Views.{state-of-run}
-use Rattle.schedules.specs.Schedule.{full, full-miss, judged, verdict-of}
+use Rattle.schedules.specs.Schedule.{full, full-miss, judged}
 use Rattle.schedules.proofs.Endless.{going, never-misses}
 use Rattle.schedules.proofs.Judged.{answer-miss, answer-refused, judged-miss, judged-more, judged-end, miss-next, full-next}
 use Rattle.schedules.proofs.verdict.Verdict.of.Needs as need

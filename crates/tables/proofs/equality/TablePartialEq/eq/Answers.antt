@@ -1,5 +1,4 @@
-use mathlib.Core.Path.{_≡_, sym, _∙_}
-use Rattle.std.specs.Orderings.{Decides}
+use mathlib.Core.Path.{sym, _∙_}
 use Rattle.std.proofs.shelf.Equals.{matches-decides}
 use Rattle.tables.proofs.equality.TablePartialEq.eq.Needs as need
 

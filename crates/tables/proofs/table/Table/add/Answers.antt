@@ -1,21 +1,18 @@
-use Prim.Native.Nat.{ℕ, _+_, _<_, _≤_}
+use Prim.Native.Nat.{_+_}
 use native.Mathlib.Omega.{arith}
 use mathlib.Core.Path.{_≡_, refl, sym, _∙_, ap, subst}
-use mathlib.Core.List.{List, [], _∷_, _++_}
-use lib.ListN.{length, getD, take, set}
-use Rattle.std.specs.declared.option.Option.the-variants.{None}
+use mathlib.Core.List.{[], _∷_, _++_}
+use lib.ListN.{length, take, set}
 use Rattle.std.specs.declared.result.Result.the-variants.{Ok}
 use Rattle.std.proofs.shelf.Lists.{length-set, take-more-set}
 use Rattle.tables.specs.Divisors.{lcm}
-use Rattle.tables.specs.Tasks.{nobody, Each, Timed, Ranked}
+use Rattle.tables.specs.Tasks.{Each, Timed, Ranked}
 use Rattle.tables.specs.Tables.{tasks-of}
 use Rattle.tables.specs.Hyperperiod.{hyperperiod-of}
 use Rattle.tables.specs.Adding.{answer-by, tasks-by}
-use Rattle.tables.specs.declared.task.Task.{Task}
-use Rattle.tables.specs.declared.table.Table.{Table}
 use Rattle.tables.proofs.Multiples.{hyper-push, hyper-pos}
 use Rattle.tables.proofs.Counted.{tasks-count, positive}
-use Rattle.tables.proofs.Added.{Refuses, refuses, each-push, timed-from, ranked-from, fault-full, fault-times, fault-priorities, fault-hyperperiod, fault-none}
+use Rattle.tables.proofs.Added.{refuses, each-push, timed-from, ranked-from, fault-full, fault-times, fault-priorities, fault-hyperperiod, fault-none}
 use Rattle.tables.proofs.table.Table.add.Needs as need
 
 pub returns-then-n-room : need.returns-then-n-room

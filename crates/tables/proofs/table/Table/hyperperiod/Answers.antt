@@ -1,6 +1,5 @@
-use Prim.Native.Nat.{ℕ, _<_, _≤_}
 use native.Mathlib.Omega.{arith}
-use mathlib.Core.Path.{_≡_, refl, sym, _∙_, ap, subst}
+use mathlib.Core.Path.{_≡_, sym, _∙_, ap, subst}
 use lib.ListN.{length, getD, take}
 use Rattle.std.proofs.shelf.Lists.{take-take}
 use Rattle.tables.specs.Divisors.{lcm}
@@ -8,7 +7,6 @@ use Rattle.tables.specs.Tasks.{nobody, Timed}
 use Rattle.tables.specs.Hyperperiod.{hyperperiod-of, LeastCommonMultiple}
 use Rattle.tables.specs.Tables.{tasks-of}
 use Rattle.tables.specs.declared.task.Task.{Task}
-use Rattle.tables.specs.declared.table.Table.{Table}
 use Rattle.tables.proofs.Multiples.{hyper-nil, hyper-more, hyper-front, hyper-least}
 use Rattle.tables.proofs.Counted.{tasks-count, tasks-at, positive}
 use Rattle.tables.proofs.table.Table.hyperperiod.Needs as need
