@@ -27,18 +27,12 @@ closed-is : (ts : List Task) (ss : List Slot) (miss : Option ℕ) → closed ts 
 closed-is ts ss None = refl
 closed-is ts ss (Some k) = refl
 
-pub renew-young : (t : Task) (s : Slot) → 1 ≤ t .t → s .age ≤ t .t → renew t s .age < t .t
+renew-young : (t : Task) (s : Slot) → 1 ≤ t .t → s .age ≤ t .t → renew t s .age < t .t
 renew-young t s one le = grind (arith, tells)
 
 none-from : (o : Option ℕ) → false ≡ isSome o → o ≡ None
 none-from None e = refl
 none-from (Some k) e = absurd (false≢true e)
-
--- what a unit on the front slots gives
-pub record Stepped (ts : List Task) (m : Meaning) (old : List Slot) (ran miss : Option ℕ) (new : List Slot) : Type 0 where
-  pub is-ran : ran ≡ mapped (λ j. j .task) (picked m (take (length ts) old))
-  pub is-miss : miss ≡ missed ts (map older (served m (take (length ts) old)))
-  pub after : take (length ts) new ≡ advanced ts (served m (take (length ts) old)) .slots
 
 module _ (ts : List Task) (p : Progress) (few : length ts ≤ 32) (wide : length (p .slots) ≡ 32) where
   pub view-length : length (take (length ts) (p .slots)) ≡ length ts
@@ -53,47 +47,68 @@ module _ (ts : List Task) (p : Progress) (few : length ts ≤ 32) (wide : length
   pub answers-left : (i : ℕ) → i < length ts → Ok (at (p .slots) i .left) ≡ left-answer (state-of ts p) i
   answers-left i h = let n = view-length in let e = view-at i h in rw (lt-ltb i (length (take (length ts) (p .slots))) (omega arith), e)
 
-  module _ (on : p .ended ≡ false) (timed : Each Timed ts) (young : Young ts p) where
-    pub young-fits : (k : ℕ) → k < length ts → at (p .slots) k .age + 1 < 2 ^ 32
-    young-fits k h = let y = young on k h in let t = timed k h in omega arith
+-- a run that goes on, and what a unit on its front slots gave; ts′ is the table's list as the code had it
+pub record Ticking (ts ts′ : List Task) (p : Progress) (m : Meaning) (ran miss : Option ℕ) (slots : List Slot) : Type 0 where
+  pub few : length ts ≤ 32
+  pub timed : Each Timed ts
+  pub wide : length (p .slots) ≡ 32
+  pub young : Young ts p
+  pub on : p .ended ≡ false
+  pub same : ts′ ≡ ts
+  pub is-ran : ran ≡ mapped (λ j. j .task) (picked m (take (length ts′) (p .slots)))
+  pub is-miss : miss ≡ missed ts′ (map older (served m (take (length ts′) (p .slots))))
+  pub after : take (length ts′) slots ≡ advanced ts′ (served m (take (length ts′) (p .slots))) .slots
 
-    counted : Counted (take (length ts) (p .slots))
-    counted = record {
-      few = omega (arith, view-length);
-      aged = λ k h. let h′ : k < length ts = omega (arith, view-length) in let y = young-fits k h′ in let e = ap (λ s. s .age) (view-at k h′) in omega arith;
-    }
+module _ {ts ts′ : List Task} {p : Progress} {m : Meaning} {ran miss : Option ℕ} {slots : List Slot} (u : Ticking ts ts′ p m ran miss slots) where
+  ran-is : ran ≡ mapped (λ j. j .task) (picked m (take (length ts) (p .slots)))
+  ran-is = u .is-ran ∙ ap (λ t. mapped (λ j. j .task) (picked m (take (length t) (p .slots)))) (u .same)
 
-    module _ (m : Meaning) (ran miss : Option ℕ) (slots : List Slot) (ts′ : List Task) (same : ts′ ≡ ts) (st : Stepped ts′ m (p .slots) ran miss slots) where
-      stepped : Stepped ts m (p .slots) ran miss slots
-      stepped = subst (λ t. Stepped t m (p .slots) ran miss slots) same st
+  miss-is : miss ≡ missed ts (map older (served m (take (length ts) (p .slots))))
+  miss-is = u .is-miss ∙ ap (λ t. missed t (map older (served m (take (length t) (p .slots))))) (u .same)
 
-      pub tick-answers : Ok (ran, miss) ≡ tick-answer ts m (state-of ts p)
-      tick-answers = rw (on, stepped .is-ran, stepped .is-miss)
+  after-is : take (length ts) slots ≡ advanced ts (served m (take (length ts) (p .slots))) .slots
+  after-is = subst (λ t. take (length t) slots ≡ advanced t (served m (take (length t) (p .slots))) .slots) (u .same) (u .after)
 
-      pub tick-after : (e : Bool) → e ≡ isSome miss → state-of ts (record { slots = slots; ended = e }) ≡ ticked ts m (state-of ts p)
-      tick-after e f =
-          let ss = served m (take (length ts) (p .slots)) in
-          rw (on, f, stepped .after, stepped .is-miss) (sym (closed-is ts (map older ss) (missed ts (map older ss))))
+  pub tick-answers : Ok (ran, miss) ≡ tick-answer ts m (state-of ts p)
+  tick-answers = rw (u .on, ran-is, miss-is)
 
-      pub tick-serves : Exclusive m → Transitive m → AheadOfAllReady m (take (length ts) (p .slots)) ran
-      tick-serves ex tr = rw (stepped .is-ran) (picked-ahead m ex tr (take (length ts) (p .slots)) counted)
+  pub tick-after : (e : Bool) → e ≡ isSome miss → state-of ts (record { slots = slots; ended = e }) ≡ ticked ts m (state-of ts p)
+  tick-after e f =
+      let ss = served m (take (length ts) (p .slots)) in
+      rw (u .on, f, after-is, miss-is) (sym (closed-is ts (map older ss) (missed ts (map older ss))))
 
-      pub young-after : false ≡ isSome miss → (k : ℕ) → k < length ts → at slots k .age < getD ts k nobody .t
-      young-after none k h =
-          let ss = take (length ts) (p .slots) in
-          let sp = served m ss in
-          let is-none : missed ts (map older sp) ≡ None = sym (stepped .is-miss) ∙ none-from miss none in
-          let here : take (length ts) slots ≡ renewed ts (map older sp) = stepped .after ∙ ap (λ o. closed ts (map older sp) o .slots) is-none in
-          let n : length sp ≡ length ts = spent-length (picked m ss) ss ∙ view-length in
-          let n′ : length (map older sp) ≡ length ts = length-map sp older ∙ n in
-          let a : at slots k ≡ at (take (length ts) slots) k = sym (getD-take (length ts) slots k nothing h) in
-          let b : at (renewed ts (map older sp)) k ≡ renew (getD ts k nobody) (at (map older sp) k) = renewed-at ts (map older sp) k (omega arith) in
-          let c : at (map older sp) k .age ≡ at (p .slots) k .age + 1 =
-          ap (λ s. s .age) (older-at sp k (omega arith)) ∙ ap (λ x. x + 1) (spent-age (picked m ss) ss k ∙ ap (λ s. s .age) (view-at k h)) in
-          let good = timed k h in
-          let y = young on k h in
-          let done : renew (getD ts k nobody) (at (map older sp) k) .age < getD ts k nobody .t = renew-young (getD ts k nobody) (at (map older sp) k) (omega arith) (omega arith) in
-          subst (λ s. s .age < getD ts k nobody .t) (sym (a ∙ ap (λ l. at l k) here ∙ b)) done
+  counted : Counted (take (length ts) (p .slots))
+  counted =
+      let n = view-length ts p (u .few) (u .wide) in
+      record {
+        few = let few = u .few in omega arith;
+        aged = λ k h.
+            let h′ : k < length ts = omega arith in
+            let y = u .young (u .on) k h′ in
+            let t = u .timed k h′ in
+            let e = ap (λ s. s .age) (view-at ts p (u .few) (u .wide) k h′) in
+            omega arith;
+      }
+
+  pub tick-serves : Exclusive m → Transitive m → AheadOfAllReady m (take (length ts) (p .slots)) ran
+  tick-serves ex tr = rw ran-is (picked-ahead m ex tr (take (length ts) (p .slots)) counted)
+
+  pub young-after : false ≡ isSome miss → (k : ℕ) → k < length ts → at slots k .age < getD ts k nobody .t
+  young-after none k h =
+      let ss = take (length ts) (p .slots) in
+      let sp = served m ss in
+      let is-none : missed ts (map older sp) ≡ None = sym miss-is ∙ none-from miss none in
+      let here : take (length ts) slots ≡ renewed ts (map older sp) = after-is ∙ ap (λ o. closed ts (map older sp) o .slots) is-none in
+      let n : length sp ≡ length ts = spent-length (picked m ss) ss ∙ view-length ts p (u .few) (u .wide) in
+      let n′ : length (map older sp) ≡ length ts = length-map sp older ∙ n in
+      let a : at slots k ≡ at (take (length ts) slots) k = sym (getD-take (length ts) slots k nothing h) in
+      let b : at (renewed ts (map older sp)) k ≡ renew (getD ts k nobody) (at (map older sp) k) = renewed-at ts (map older sp) k (omega arith) in
+      let c : at (map older sp) k .age ≡ at (p .slots) k .age + 1 =
+      ap (λ s. s .age) (older-at sp k (omega arith)) ∙ ap (λ x. x + 1) (spent-age (picked m ss) ss k ∙ ap (λ s. s .age) (view-at ts p (u .few) (u .wide) k h)) in
+      let good = u .timed k h in
+      let y = u .young (u .on) k h in
+      let done : renew (getD ts k nobody) (at (map older sp) k) .age < getD ts k nobody .t = renew-young (getD ts k nobody) (at (map older sp) k) (omega arith) (omega arith) in
+      subst (λ s. s .age < getD ts k nobody .t) (sym (a ∙ ap (λ l. at l k) here ∙ b)) done
 
 pub new-state : (ts ts′ : List Task) (slots : List Slot) → ts′ ≡ ts → length ts ≤ 32 → length slots ≡ 32 → ((k : ℕ) → k < length ts′ → at slots k ≡ released (getD ts′ k nobody)) → take (length ts) slots ≡ map released ts
 new-state ts ts′ slots same few wide each =
