@@ -2,6 +2,7 @@ pub mod Firsts
 pub mod Slots
 pub mod Loops
 pub mod Picks
+pub mod Misses
 pub mod Served
 pub mod Viewed
 pub mod Endless

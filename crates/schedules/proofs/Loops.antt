@@ -13,7 +13,7 @@ use lib.Dec.{ltb}
 use lib.ListN.{length, set, take, drop}
 use Rattle.std.proofs.shelf.Lists.{ext-getD, length-map, getD-set-same, getD-set-other, take-set, take-more-set, at-drop-more, at-drop-all, append-nil}
 use Rattle.std.proofs.shelf.Tests.{cases-eq, cases-lt, cond-true, cond-false, true≢false, false≢true, lt-ltb, le-ltb, or-parts}
-use Rattle.std.specs.Options.{isSome}
+use Rattle.std.specs.Options.{isSome, Cases}
 use Rattle.std.specs.declared.option.Option.{Option}
 use Rattle.std.specs.declared.option.Option.the-variants.{Some, None}
 use Rattle.schedules.specs.declared.slot.Slot.{Slot}
@@ -84,6 +84,22 @@ miss-found p k (Some i) f e here = absurd (true≢false f)
 pub miss-passed : (p : ℕ → Bool) (k : ℕ) (m : Option ℕ) → m ≡ lowest p 0 k → p k ≡ false → m ≡ lowest p 0 (k + 1)
 miss-passed p k None e here = sym (lowest-passed p 0 k k (omega arith) (sym e) here) ∙ ap (lowest p 0) (sym (add-one k))
 miss-passed p k (Some i) e here = miss-kept p k (Some i) refl e
+
+from-next : (p : ℕ → Bool) (a n : ℕ) → p a ≡ false → (o : Option ℕ)
+    → Cases o ((k : ℕ) → a + 1 ≤ k → k < a + 1 + n → p k ≡ false) (λ i. (p i ≡ true) × ((k : ℕ) → a + 1 ≤ k → k < i → p k ≡ false))
+    → Cases o ((k : ℕ) → a ≤ k → k < a + suc n → p k ≡ false) (λ i. (p i ≡ true) × ((k : ℕ) → a ≤ k → k < i → p k ≡ false))
+from-next p a n e None h = λ k low high. elim (cases-eq k a) [ inl same ↦ ap p same ∙ e | inr ne ↦ h k (omega arith) (omega arith) ]
+from-next p a n e (Some i) h = (h .0, λ k low high. elim (cases-eq k a) [ inl same ↦ ap p same ∙ e | inr ne ↦ h .1 k (omega arith) high ])
+
+-- what the lowest number is
+pub lowest-is : (p : ℕ → Bool) (a n : ℕ) → Cases (lowest p a n) ((k : ℕ) → a ≤ k → k < a + n → p k ≡ false) (λ i. (p i ≡ true) × ((k : ℕ) → a ≤ k → k < i → p k ≡ false))
+lowest-is p a zero = λ k low high. absurd (let z : ⊥ = omega arith in z)
+lowest-is p a (suc n) =
+    let P : Bool → Type 0 = λ v. p a ≡ v → Cases (cond v (Some a) (lowest p (a + 1) n)) ((k : ℕ) → a ≤ k → k < a + suc n → p k ≡ false) (λ i. (p i ≡ true) × ((k : ℕ) → a ≤ k → k < i → p k ≡ false)) in
+    (elim (p a) as P [
+      | true ↦ λ e. (e, λ k low high. absurd (let z : ⊥ = omega arith in z))
+      | false ↦ λ e. from-next p a n e (lowest p (a + 1) n) (lowest-is p (a + 1) n)
+    ]) refl
 
 -- no task so far has come to its period, nor has this one
 pub none-due-more : (q : ℕ → Bool) (due here : Bool) (k : ℕ) → (due ≡ false → (i : ℕ) → i < k → q i ≡ false) → here ≡ q k → (due || here) ≡ false → (i : ℕ) → i < k + 1 → q i ≡ false

@@ -17,10 +17,11 @@ use Rattle.tables.specs.Tasks.{nobody, Each, Timed}
 use Rattle.orderings.specs.Meaning.{Meaning, Exclusive, Transitive}
 use Rattle.schedules.specs.declared.slot.Slot.{Slot}
 use Rattle.schedules.specs.declared.slot.Progress.{Progress}
-use Rattle.schedules.specs.Units.{nothing, at, picked, served, older, missed, renew, renewed, released, AheadOfAllReady}
-use Rattle.schedules.specs.Runs.{state-of, Young, closed, advanced, ticked, tick-answer, age-answer, left-answer}
+use Rattle.schedules.specs.Units.{nothing, at, picked, served, older, missed, renew, renewed, released, AheadOfAllReady, LowestLate}
+use Rattle.schedules.specs.Runs.{state-of, Young, closed, unit-end, advanced, ticked, tick-answer, age-answer, left-answer}
 use Rattle.schedules.proofs.Slots.{older-at, renewed-at}
 use Rattle.schedules.proofs.Served.{spent-length, spent-age}
+use Rattle.schedules.proofs.Misses.{missed-lowest}
 use Rattle.schedules.proofs.Picks.{Counted, picked-ahead}
 
 closed-is : (ts : List Task) (ss : List Slot) (miss : Option ℕ) → closed ts ss miss ≡ record { slots = closed ts ss miss .slots; ended = isSome miss }
@@ -92,6 +93,9 @@ module _ {ts ts′ : List Task} {p : Progress} {m : Meaning} {ran miss : Option 
 
   pub tick-serves : Exclusive m → Transitive m → AheadOfAllReady m (take (length ts) (p .slots)) ran
   tick-serves ex tr = rw ran-is (picked-ahead m ex tr (take (length ts) (p .slots)) counted)
+
+  pub tick-names : LowestLate ts (unit-end m (take (length ts) (p .slots))) miss
+  tick-names = rw miss-is (missed-lowest ts (unit-end m (take (length ts) (p .slots))))
 
   pub young-after : false ≡ isSome miss → (k : ℕ) → k < length ts → at slots k .age < getD ts k nobody .t
   young-after none k h =

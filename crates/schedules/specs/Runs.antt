@@ -47,13 +47,17 @@ closed ts ss (Some k) = record { slots = ss; ended = true }
 abbrev pub advanced : List Task → List Slot → State
 advanced ts ss = closed ts (map older ss) (missed ts (map older ss))
 
+-- the slots at the end of a unit, where nothing is released yet
+abbrev pub unit-end : Meaning → List Slot → List Slot
+unit-end m ss = map older (served m ss)
+
 -- a tick is both halves, one after the other; an ended run stays as it is
 abbrev pub ticked : List Task → Meaning → State → State
 ticked ts m st = cond (st .ended) st (advanced ts (served m (st .slots)))
 
 -- the task that a tick names as missed
 abbrev pub tick-miss : List Task → Meaning → State → Option ℕ
-tick-miss ts m st = cond (st .ended) None (missed ts (map older (served m (st .slots))))
+tick-miss ts m st = cond (st .ended) None (missed ts (unit-end m (st .slots)))
 
 -- the task that ran and the task that missed
 abbrev pub tick-answer : List Task → Meaning → State → Result (Option ℕ × Option ℕ) TickRefusal

@@ -64,6 +64,16 @@ older s = record { age = s .age + 1; left = s .left }
 abbrev pub late : Task → Slot → Bool
 late t s = eqb (s .age) (t .d) && ltb 0 (s .left)
 
+-- the same in words
+abbrev pub Late : List Task → List Slot → ℕ → Type 0
+Late ts ss k = (at ss k .age ≡ getD ts k nobody .d) × Ready ss k
+
+-- none where no task is late, else a late task below which none is
+abbrev pub LowestLate : List Task → List Slot → Option ℕ → Type 0
+LowestLate ts ss r =
+    Cases r ((k : ℕ) → Late ts ss k → ⊥)
+    (λ i. Late ts ss i × ((k : ℕ) → k < i → Late ts ss k → ⊥))
+
 -- the lowest of n numbers from a on at which a test holds
 abbrev pub lowest : (ℕ → Bool) → ℕ → ℕ → Option ℕ
 lowest p a zero = None

@@ -1,8 +1,8 @@
 ghost use mathlib.Core.Path.{_≡_};
 ghost use Rattle.std.specs.Results.{Cases};
 ghost use Rattle.tables.specs.Tables.{«tasks-of»};
-ghost use Rattle.schedules.specs.Units.{AheadOfAllReady};
-ghost use Rattle.schedules.specs.Runs.{fresh, ticked, «tick-answer», «age-answer», «left-answer»};
+ghost use Rattle.schedules.specs.Units.{AheadOfAllReady, LowestLate};
+ghost use Rattle.schedules.specs.Runs.{fresh, «unit-end», ticked, «tick-answer», «age-answer», «left-answer»};
 ghost use Rattle.schedules.specs.Views.{«table-of-run», «tasks-of-run», «ordering-of-run», «state-of-run»};
 use crate::job::Job;
 use crate::run::Run;
@@ -41,6 +41,7 @@ impl<'t, 'o, O: Ordering> Run<'t, 'o, O> {
         ensures answer { λ r. ⌜ r ≡ tick-answer (tasks-of-run (now (self .entry))) (ahead (ordering-of-run (now (self .entry)))) (state-of-run (now (self .entry))) ⌝ }
         ensures after { λ _. ⌜ state-of-run (now (self .exit)) ≡ ticked (tasks-of-run (now (self .entry))) (ahead (ordering-of-run (now (self .entry)))) (state-of-run (now (self .entry))) ⌝ }
         ensures serves_the_job_ahead_of_all_ready { λ r. ⌜ Cases r (λ x. AheadOfAllReady (ahead (ordering-of-run (now (self .entry)))) (state-of-run (now (self .entry)) .slots) (x .0)) (λ _. Unit {0}) ⌝ }
+        ensures names_the_lowest_late_task { λ r. ⌜ Cases r (λ x. LowestLate (tasks-of-run (now (self .entry))) (unit-end (ahead (ordering-of-run (now (self .entry)))) (state-of-run (now (self .entry)) .slots)) (x .1)) (λ _. Unit {0}) ⌝ }
         ensures same_if_refused { λ r. ⌜ Cases r (λ _. Unit {0}) (λ _. now (self .exit) ≡ now (self .entry)) ⌝ }
         ensures keeps_table { λ _. ⌜ now (self .exit) .table ≡ now (self .entry) .table ⌝ }
         ensures keeps_ordering { λ _. ⌜ now (self .exit) .ordering ≡ now (self .entry) .ordering ⌝ }

@@ -2,7 +2,7 @@ use mathlib.Core.Path.{refl, _∙_}
 use mathlib.Core.Bool.{true}
 use Rattle.tables.specs.Tables.{tasks-of}
 use Rattle.tables.proofs.Counted.{tasks-few}
-use Rattle.schedules.proofs.Viewed.{Ticking, tick-answers, tick-after, tick-serves, young-after}
+use Rattle.schedules.proofs.Viewed.{Ticking, tick-answers, tick-after, tick-serves, tick-names, young-after}
 use Rattle.schedules.proofs.run.Run.tick.Needs as need
 
 pub ghost-self-else-is-some : need.ghost-self-else-is-some
@@ -46,6 +46,7 @@ returns-then-is-some g c =
       answer = tick-answers u;
       after = tick-after u true (c .if-is-some .ensures tt);
       serves-the-job-ahead-of-all-ready = tick-serves u (g .O·Ordering·met .exclusive o) (g .O·Ordering·met .transitive o);
+      names-the-lowest-late-task = tick-names u;
       same-if-refused = tt;
       keeps-table = refl;
       keeps-ordering = refl;
@@ -73,6 +74,7 @@ returns-else-is-some g c =
       answer = tick-answers u;
       after = tick-after u (s .progress .ended) (c .if-self .left ∙ c .if-is-some .ensures tt);
       serves-the-job-ahead-of-all-ready = tick-serves u (g .O·Ordering·met .exclusive o) (g .O·Ordering·met .transitive o);
+      names-the-lowest-late-task = tick-names u;
       same-if-refused = tt;
       keeps-table = refl;
       keeps-ordering = refl;
