@@ -7,10 +7,11 @@ use Rattle.refusals.specs.declared.kinds.AddRefusal.the-variants.{TableFull, T
 use Rattle.refusals.specs.declared.kinds.RecordFault.the-variants as fault
 use Rattle.refusals.specs.declared.kinds.ReadRefusal.{ReadRefusal}
 use Rattle.refusals.specs.declared.kinds.ReadRefusal.the-variants.{TextTooLong, OtherHeader, Record}
+use Rattle.refusals.specs.declared.kinds.SetRefusal.the-variants as set
 use Rattle.refusals.specs.declared.kinds.QuestionRefusal.the-variants.{NoSuchTask}
 use Rattle.refusals.specs.declared.kinds.TickRefusal.the-variants.{RunEnded}
 use Rattle.refusals.specs.declared.kinds.Refusal.{Refusal}
-use Rattle.refusals.specs.declared.kinds.Refusal.the-variants.{Reading, Adding, Asking, Ticking}
+use Rattle.refusals.specs.declared.kinds.Refusal.the-variants.{Reading, Adding, Setting, Asking, Ticking}
 use Rattle.refusals.specs.declared.kinds.Place.{Place}
 
 -- a refused adding has the same number whether a call or a text asked for it
@@ -27,6 +28,8 @@ number-of (Reading (Record (fault.Field f))) = 3
 number-of (Reading (Record (fault.Shape row))) = 4
 number-of (Reading (Record (fault.Adding row e))) = adding-number e
 number-of (Adding e) = adding-number e
+number-of (Setting set.NoSuchTask) = 9
+number-of (Setting set.PromotionOutOfBounds) = 7
 number-of (Asking NoSuchTask) = 9
 number-of (Ticking RunEnded) = 11
 
@@ -41,5 +44,6 @@ reading-place (Record (fault.Adding row e)) = record { row = row; field = 0 }
 abbrev pub place-of : Refusal → Option Place
 place-of (Reading e) = Some (reading-place e)
 place-of (Adding e) = None
+place-of (Setting e) = None
 place-of (Asking e) = None
 place-of (Ticking e) = None

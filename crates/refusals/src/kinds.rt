@@ -42,6 +42,15 @@ pub enum ReadRefusal {
     Record(RecordFault),
 }
 
+/// Why a task's promotion time is not set.
+#[derive(Clone, Copy, Debug, PartialEq, Eq)]
+pub enum SetRefusal {
+    /// There is no task of that number.
+    NoSuchTask,
+    /// S above D.
+    PromotionOutOfBounds,
+}
+
 /// Why a question about a task has no answer.
 #[derive(Clone, Copy, Debug, PartialEq, Eq)]
 pub enum QuestionRefusal {
@@ -61,6 +70,7 @@ pub enum TickRefusal {
 pub enum Refusal {
     Reading(ReadRefusal),
     Adding(AddRefusal),
+    Setting(SetRefusal),
     Asking(QuestionRefusal),
     Ticking(TickRefusal),
 }

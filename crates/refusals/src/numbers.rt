@@ -6,6 +6,7 @@ use crate::kinds::QuestionRefusal;
 use crate::kinds::ReadRefusal;
 use crate::kinds::RecordFault;
 use crate::kinds::Refusal;
+use crate::kinds::SetRefusal;
 use crate::kinds::TickRefusal;
 
 fn adding_number(e: AddRefusal) -> u32
@@ -31,6 +32,8 @@ impl Refusal {
             Refusal::Reading(ReadRefusal::Record(RecordFault::Shape(_))) => 4,
             Refusal::Reading(ReadRefusal::Record(RecordFault::Adding(_, e))) => adding_number(e),
             Refusal::Adding(e) => adding_number(e),
+            Refusal::Setting(SetRefusal::NoSuchTask) => 9,
+            Refusal::Setting(SetRefusal::PromotionOutOfBounds) => 7,
             Refusal::Asking(QuestionRefusal::NoSuchTask) => 9,
             Refusal::Ticking(TickRefusal::RunEnded) => 11,
         }
@@ -56,6 +59,7 @@ impl Refusal {
                 field: 0,
             }),
             Refusal::Adding(_) => None,
+            Refusal::Setting(_) => None,
             Refusal::Asking(_) => None,
             Refusal::Ticking(_) => None,
         }

@@ -4,7 +4,7 @@ use native.Mathlib.Nat.{dvd-refl, dvd-trans, le-of-dvd, one-dvd, pos-of-dvd-of-p
 use native.Mathlib.Omega.{arith}
 use mathlib.Core.Path.{_≡_, refl, sym, _∙_, ap}
 use mathlib.Core.List.{List, [], _∷_, _++_}
-use lib.ListN.{length, getD, take, drop}
+use lib.ListN.{length, getD, take, drop, set}
 use Rattle.std.specs.Iters.{folded}
 use Rattle.std.proofs.shelf.Sums.{folded-push, folded-more}
 use Rattle.std.proofs.shelf.Lists.{take-append-drop}
@@ -69,3 +69,13 @@ hyper-front xs i all =
     let d : from 1 (take i xs) ∣ from 1 xs = rw e (start-divides (from 1 (take i xs)) (drop i xs)) in
     let p = from-pos 1 xs (omega arith) all in
     (pos-of-dvd-of-pos d p, le-of-dvd p d)
+
+-- a task of the same period in the place of another
+from-set : (h : ℕ) (xs : List Task) (i : ℕ) (x : Task) → i < length xs → x .t ≡ getD xs i nobody .t → from h (set xs i x) ≡ from h xs
+from-set h [] i x l e = let z : ⊥ = omega arith in absurd z
+from-set h (y ∷ ys) zero x l e = ap (λ t. from (lcm h t) ys) e
+from-set h (y ∷ ys) (suc i) x l e = from-set (lcm h (y .t)) ys i x (omega arith) e
+
+pub hyper-set : (xs : List Task) (i : ℕ) (x : Task) → i < length xs → x .t ≡ getD xs i nobody .t → hyperperiod-of (set xs i x) ≡ hyperperiod-of xs
+unfolding hyperperiod-of
+hyper-set xs i x l e = from-set 1 xs i x l e

@@ -3,3 +3,4 @@ pub mod Divisors
 pub mod Hyperperiod
 pub mod Adding
 pub mod Tables
+pub mod Setting

@@ -4,12 +4,14 @@ ghost use lib.ListN.{length};
 ghost use Rattle.std.specs.Results.{Cases};
 ghost use Rattle.tables.specs.Hyperperiod.{«hyperperiod-of», LeastCommonMultiple};
 ghost use Rattle.tables.specs.Adding.{timely, «well-ranked», «add-answer», «tasks-after-adding»};
+ghost use Rattle.tables.specs.Setting.{«set-answer», «tasks-after-setting», OnlyPromotion};
 ghost use Rattle.tables.specs.Tables.{«tasks-of», «task-at»};
 use crate::euclid::least_multiple;
 use crate::table::Table;
 use crate::task::Rows;
 use crate::task::Task;
 use refusals::kinds::AddRefusal;
+use refusals::kinds::SetRefusal;
 
 // What stands in the places behind the tasks.
 const NOBODY: Task = Task {
@@ -111,5 +113,23 @@ impl Table {
         self.rows.tasks[n] = task;
         self.rows.count = n + 1;
         Ok(n as u32)
+    }
+
+    /// Sets the promotion time S of one task, and nothing else. A refused setting leaves the table as it was.
+    pub fn set_promotion(&mut self, i: u32, s: u32) -> Result<(), SetRefusal>
+        ensures answer { λ r. ⌜ r ≡ set-answer (tasks-of (now (self .entry))) i s ⌝ }
+        ensures tasks_after { λ _. ⌜ tasks-of (now (self .exit)) ≡ tasks-after-setting (tasks-of (now (self .entry))) i s ⌝ }
+        ensures changes_that_promotion_alone { λ r. ⌜ Cases r (λ _. OnlyPromotion (tasks-of (now (self .entry))) (tasks-of (now (self .exit))) i s) (λ _. Unit {0}) ⌝ }
+        ensures same_if_refused { λ r. ⌜ Cases r (λ _. Unit {0}) (λ _. now (self .exit) ≡ now (self .entry)) ⌝ }
+    {
+        let k = i as usize;
+        if k >= self.rows.count {
+            return Err(SetRefusal::NoSuchTask);
+        }
+        if s > self.rows.tasks[k].d {
+            return Err(SetRefusal::PromotionOutOfBounds);
+        }
+        self.rows.tasks[k].s = s;
+        Ok(())
     }
 }
