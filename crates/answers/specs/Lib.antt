@@ -1,4 +1,2 @@
 pub mod Answers
-pub mod Puts
 pub mod Texts
-pub mod Prints

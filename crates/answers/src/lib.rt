@@ -2,6 +2,4 @@ pub mod answer;
 mod columns;
 pub mod input;
 pub mod judging;
-pub mod printed;
 pub mod printing;
-mod puts;

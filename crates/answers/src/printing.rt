@@ -1,15 +1,12 @@
 ghost use mathlib.Core.Path.{_≡_};
-ghost use Prim.Native.Nat.{_+_, _≤_};
+ghost use Prim.Native.Nat.{_≤_};
 ghost use lib.ListN.{length};
-ghost use Rattle.answers.specs.Puts.{Put};
-ghost use Rattle.answers.specs.Texts.{«word-text», «columns-of», «columns-text», «answer-text»};
-ghost use Rattle.answers.specs.Prints.{«bytes-of»};
+ghost use Rattle.lines.specs.Lines.{«bytes-of», pushed};
+ghost use Rattle.answers.specs.Texts.{«word-text», column, «columns-of», «columns-text», «answer-text»};
 use crate::answer::Answer;
 use crate::columns::Columns;
 use crate::columns::Word;
-use crate::printed::Printed;
-use crate::puts::put_bytes;
-use crate::puts::put_column;
+use lines::line::Line;
 use refusals::kinds::Refusal;
 
 const HEADER: [u8; 54] = *b"answer,task,instant,hyperperiod,refusal,record,field\r\n";
@@ -52,52 +49,51 @@ fn columns(answer: &Answer) -> Columns
     columns
 }
 
-// Writes the answer's first field: at most 7 bytes.
-fn put_word(out: &mut [u8], at: usize, word: Word) -> usize
-    requires { ⌜ at + 7 ≤ length (now out) ⌝ }
-    ensures put { λ r. ⌜ Put (now (out .entry)) (now (out .exit)) at r (word-text word) ⌝ }
-    ensures bound { λ r. ⌜ r ≤ at + 7 ⌝ }
+// The answer's first field: at most 7 bytes.
+fn push_word(line: &mut Line, word: Word)
+    ensures after { λ _. ⌜ bytes-of (now (line .exit)) ≡ pushed (bytes-of (now (line .entry))) (word-text word) ⌝ }
+    ensures short { λ _. ⌜ length (word-text word) ≤ 7 ⌝ }
 {
     match word {
-        Word::Holds => put_bytes(out, at, b"holds"),
-        Word::Miss => put_bytes(out, at, b"miss"),
-        Word::Refused => put_bytes(out, at, b"refused"),
+        Word::Holds => line.push_bytes(b"holds"),
+        Word::Miss => line.push_bytes(b"miss"),
+        Word::Refused => line.push_bytes(b"refused"),
     }
 }
 
-// Writes an answer's record, ended: at most 75 bytes.
-fn put_columns(out: &mut [u8], at: usize, c: &Columns) -> usize
-    requires { ⌜ at + 75 ≤ length (now out) ⌝ }
-    ensures put { λ r. ⌜ Put (now (out .entry)) (now (out .exit)) at r (columns-text (now (c .entry))) ⌝ }
-    ensures bound { λ r. ⌜ r ≤ at + 75 ⌝ }
+// A comma and, behind it, the number if there is one: at most 11 bytes.
+fn push_column(line: &mut Line, number: Option<u32>)
+    ensures after { λ _. ⌜ bytes-of (now (line .exit)) ≡ pushed (bytes-of (now (line .entry))) (column number) ⌝ }
+    ensures short { λ _. ⌜ length (column number) ≤ 11 ⌝ }
 {
-    let a = put_word(out, at, c.word);
-    let b = put_column(out, a, c.task);
-    let d = put_column(out, b, c.instant);
-    let e = put_column(out, d, c.hyperperiod);
-    let f = put_column(out, e, c.refusal);
-    let g = put_column(out, f, c.row);
-    let h = put_column(out, g, c.field);
-    put_bytes(out, h, &LINE_END)
+    line.push(b',');
+    if let Some(v) = number {
+        line.push_number(v);
+    }
 }
 
-impl Printed {
-    /// The text of an answer: the header's record and the answer's.
-    pub fn of(answer: &Answer) -> Printed
-        ensures { λ r. ⌜ bytes-of r ≡ answer-text (now (answer .entry)) ⌝ }
-    {
-        let columns = columns(answer);
-        let mut bytes = [0u8; 160];
-        let at = put_bytes(&mut bytes, 0, &HEADER);
-        let len = put_columns(&mut bytes, at, &columns);
-        Printed { bytes, len }
-    }
+// An answer's record, ended: at most 75 bytes.
+fn push_columns(line: &mut Line, c: &Columns)
+    ensures after { λ _. ⌜ bytes-of (now (line .exit)) ≡ pushed (bytes-of (now (line .entry))) (columns-text (now (c .entry))) ⌝ }
+    ensures short { λ _. ⌜ length (columns-text (now (c .entry))) ≤ 75 ⌝ }
+{
+    push_word(line, c.word);
+    push_column(line, c.task);
+    push_column(line, c.instant);
+    push_column(line, c.hyperperiod);
+    push_column(line, c.refusal);
+    push_column(line, c.row);
+    push_column(line, c.field);
+    line.push_bytes(&LINE_END);
+}
 
-    /// The bytes to print.
-    pub fn bytes(&self) -> &[u8]
-        ensures { λ r. ⌜ now r ≡ bytes-of (now (self .entry)) ⌝ }
-    {
-        let n = self.len;
-        &self.bytes[0..n]
-    }
+/// The text of an answer: the header's record and the answer's.
+pub fn printed(answer: &Answer) -> Line
+    ensures { λ r. ⌜ bytes-of r ≡ answer-text (now (answer .entry)) ⌝ }
+{
+    let columns = columns(answer);
+    let mut line = Line::new();
+    line.push_bytes(&HEADER);
+    push_columns(&mut line, &columns);
+    line
 }

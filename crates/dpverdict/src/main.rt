@@ -1,7 +1,7 @@
 use answers::input::ROOM;
 use answers::input::fill;
 use answers::judging::judge;
-use answers::printed::Printed;
+use answers::printing::printed;
 use std::io;
 use std::io::Write;
 
@@ -9,5 +9,5 @@ fn main(rt: LibcRuntime) -> io::Result<()> {
     let mut text = [0u8; ROOM];
     let len = fill(&mut rt.stdin(), &mut text)?;
     let answer = judge(&text[0..len]);
-    rt.stdout().write_all(Printed::of(&answer).bytes())
+    rt.stdout().write_all(printed(&answer).bytes())
 }

@@ -4,7 +4,7 @@ ghost use Rattle.std.specs.Vec.{made};
 use answers::input::ROOM;
 use answers::input::fill;
 use answers::judging::judge;
-use answers::printed::Printed;
+use answers::printing::printed;
 use std::fs::File;
 use std::io;
 
@@ -23,8 +23,8 @@ fn passes(rt: &LibcRuntime, name: &str) -> io::Result<bool> {
     let mut expected = [0u8; ROOM];
     let len = load(rt, name, "in", &mut text)?;
     let bytes = load(rt, name, "out", &mut expected)?;
-    let printed = Printed::of(&judge(&text[0..len]));
-    Ok(printed.bytes() == &expected[0..bytes])
+    let line = printed(&judge(&text[0..len]));
+    Ok(line.bytes() == &expected[0..bytes])
 }
 
 fn main(rt: LibcRuntime) -> io::Result<()> {
