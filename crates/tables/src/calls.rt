@@ -53,7 +53,7 @@ impl Table {
     pub fn len(&self) -> usize
         ensures { λ r. ⌜ r ≡ length (tasks-of (now (self .entry))) ⌝ }
     {
-        self.rows.count
+        self.tasks().len()
     }
 
     /// The tasks, in the order of their numbers.
