@@ -65,6 +65,13 @@ pub enum TickRefusal {
     RunEnded,
 }
 
+/// Why a table is not written.
+#[derive(Clone, Copy, Debug, PartialEq, Eq)]
+pub enum WriteRefusal {
+    /// The buffer is shorter than the text.
+    BufferTooShort,
+}
+
 /// Any refusal, by the call that gives it.
 #[derive(Clone, Copy, Debug, PartialEq, Eq)]
 pub enum Refusal {
@@ -73,6 +80,7 @@ pub enum Refusal {
     Setting(SetRefusal),
     Asking(QuestionRefusal),
     Ticking(TickRefusal),
+    Writing(WriteRefusal),
 }
 
 /// Where in a table text a refusal lies. Field 0 stands for the whole record, record 0 for the whole text.

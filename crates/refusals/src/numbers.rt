@@ -8,6 +8,7 @@ use crate::kinds::RecordFault;
 use crate::kinds::Refusal;
 use crate::kinds::SetRefusal;
 use crate::kinds::TickRefusal;
+use crate::kinds::WriteRefusal;
 
 fn adding_number(e: AddRefusal) -> u32
     ensures { λ r. ⌜ r ≡ adding-number e ⌝ }
@@ -36,6 +37,7 @@ impl Refusal {
             Refusal::Setting(SetRefusal::PromotionOutOfBounds) => 7,
             Refusal::Asking(QuestionRefusal::NoSuchTask) => 9,
             Refusal::Ticking(TickRefusal::RunEnded) => 11,
+            Refusal::Writing(WriteRefusal::BufferTooShort) => 13,
         }
     }
 
@@ -62,6 +64,7 @@ impl Refusal {
             Refusal::Setting(_) => None,
             Refusal::Asking(_) => None,
             Refusal::Ticking(_) => None,
+            Refusal::Writing(_) => None,
         }
     }
 }

@@ -13,3 +13,6 @@ pub(crate) const NINE: u8 = b'9';
 
 // The header record, without what ends it.
 pub(crate) const HEADER: [u8; 13] = *b"C,D,T,P1,P2,S";
+
+// What ends a record.
+pub(crate) const LINE_END: [u8; 2] = *b"\r\n";

@@ -10,7 +10,7 @@ use lib.ListN.{length}
 use Rattle.std.specs.declared.option.Option.the-variants.{Some, None}
 use Rattle.std.specs.declared.result.Result.the-variants.{Err}
 use Rattle.std.proofs.shelf.Lists.{getD-append-left, getD-push, length-push}
-use Rattle.std.proofs.shelf.Tests.{le-leb, lt-leb, lt-ltb, le-ltb, cases-lt, and-parts, leb-true}
+use Rattle.std.proofs.shelf.Tests.{le-leb, lt-leb, lt-ltb, le-ltb, cases-lt, and-parts, and-from, leb-true}
 use Rattle.refusals.specs.declared.kinds.AddRefusal.{AddRefusal}
 use Rattle.refusals.specs.declared.kinds.AddRefusal.the-variants.{TableFull, TimesOutOfBounds, PrioritiesOutOfBounds, HyperperiodTooLong}
 use Rattle.tables.specs.declared.task.Task.{Task}
@@ -38,6 +38,13 @@ ranked-from x e =
     let a = and-parts (leb (x .p1) 63) _ e in
     let b = and-parts (leb (x .p2) 63) _ (a .1) in
     (leb-true _ _ (a .0), leb-true _ _ (b .0), leb-true _ _ (b .1))
+
+-- and the other way round
+pub timely-is : (x : Task) → Timed x → timely x ≡ true
+timely-is x h = and-from _ _ (le-leb _ _ (h .0)) (and-from _ _ (le-leb _ _ (h .1)) (and-from _ _ (le-leb _ _ (h .2)) (le-leb _ _ (h .3))))
+
+pub well-ranked-is : (x : Task) → Ranked x → well-ranked x ≡ true
+well-ranked-is x h = and-from _ _ (le-leb _ _ (h .0)) (and-from _ _ (le-leb _ _ (h .1)) (le-leb _ _ (h .2)))
 
 -- a refusal answers its cause, and leaves the tasks
 abbrev pub Refuses : List Task → Task → AddRefusal → Type 0
