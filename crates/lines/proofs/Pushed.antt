@@ -4,7 +4,7 @@ use mathlib.Core.List.{List, [], _∷_, _++_, append-assoc}
 use Prim.Native.Nat.{ℕ, zero, suc, _+_, _<_, _≤_}
 use native.Mathlib.Omega.{arith}
 use lib.ListN.{length, getD, take, set}
-use Rattle.std.proofs.shelf.Lists.{append-nil, take-all, take-append-le, take-at, take-more, take-more-set, length-append, length-push, length-take-le}
+use Rattle.std.proofs.shelf.Lists.{append-nil, take-all, take-at, take-more, take-more-set, length-append, length-take-le}
 use Rattle.lines.specs.declared.line.Line.{Line}
 use Rattle.lines.specs.Lines.{bytes-of, pushed}
 

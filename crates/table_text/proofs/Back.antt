@@ -1,20 +1,18 @@
 -- What is written is read back: a number, a field, a record, and all records of a table.
-use Prim.Native.Nat.{ℕ, zero, suc, _+_, _-_, _*_, _/_, _%_, _^_, _<_, _≤_}
+use Prim.Native.Nat.{ℕ, _+_, _-_, _*_, _/_, _%_, _^_, _<_, _≤_}
 use native.Mathlib.Nat.{add-zero, div-add-mod}
 use native.Mathlib.Omega.{arith}
-use mathlib.Core.Path.{_≡_, refl, sym, _∙_, ap, subst}
-use mathlib.Core.Bool.{Bool, true, false, cond, not, _&&_, _||_}
+use mathlib.Core.Path.{_≡_, refl, sym, _∙_, ap}
+use mathlib.Core.Bool.{true, false, _&&_}
 use mathlib.Core.Logic.{inl, inr}
 use mathlib.Core.List.{List, [], _∷_, _++_, append-assoc}
-use lib.Dec.{leb, eqb, ltb}
+use lib.Dec.{leb}
 use lib.ListN.{length, take, drop, getD}
 use Rattle.std.specs.Joined.{joined}
 use Rattle.std.specs.Written.{decimal}
 use Rattle.std.specs.shelf.Lists.{leading}
-use Rattle.std.specs.declared.option.Option.{Option}
 use Rattle.std.specs.declared.option.Option.the-variants.{Some, None}
-use Rattle.std.specs.declared.result.Result.{Result}
-use Rattle.std.specs.declared.result.Result.the-variants.{Ok, Err}
+use Rattle.std.specs.declared.result.Result.the-variants.{Ok}
 use Rattle.std.proofs.shelf.Lists.{append-nil, take-at, drop-at, drop-drop, length-drop, length-append, length-push, getD-append-left}
 use Rattle.std.proofs.shelf.Tests.{cond-true, cond-false, cases-bool}
 use Rattle.std.proofs.shelf.Ways.{tells}
@@ -22,10 +20,9 @@ use Rattle.std.proofs.shelf.Decimals.{decimal-by-steps, length-decimal-le}
 use Rattle.tables.specs.declared.task.Task.{Task}
 use Rattle.tables.specs.Adding.{add-fault, answer-by, tasks-by}
 use Rattle.table_text.specs.declared.parts.Field.{Field}
-use Rattle.table_text.specs.declared.parts.TaskRecord.{TaskRecord}
-use Rattle.table_text.specs.Fields.{in-field, field-length, field-bytes, is-digit, digits-after, plain-number, is-quoted, between-quotes, field-number, field-end, field-by, field-at}
+use Rattle.table_text.specs.Fields.{in-field, field-length, field-bytes, is-digit, digits-after, plain-number, is-quoted, between-quotes, field-number, field-by, field-at}
 use Rattle.table_text.specs.Separators.{past-separator}
-use Rattle.table_text.specs.Records.{ended-by, field-then-end, ended-field-at, record-at, Progress, progress, row-after}
+use Rattle.table_text.specs.Records.{ended-by, field-then-end, ended-field-at, record-at, progress, row-after}
 use Rattle.table_text.specs.Reading.{after-record, read-records}
 use Rattle.table_text.specs.Written.{field-text, record-text}
 use Rattle.table_text.proofs.Steps.{read-end, read-step}
@@ -70,9 +67,9 @@ more-digits n ds h p =
     record {
       reads = digits-push 0 (n / 10) (48 + n % 10) ds d (p .reads) ∙ ap (λ k. Some k) e;
       leads = λ rest.
-        let t = cond-true (in-field (48 + n % 10)) (1 + leading in-field rest) 0 i in
-        let q = p .leads ((48 + n % 10) ∷ rest) in
-        ap (leading in-field) (append-assoc ds ((48 + n % 10) ∷ []) rest) ∙ omega (arith, q, t);
+          let t = cond-true (in-field (48 + n % 10)) (1 + leading in-field rest) 0 i in
+          let q = p .leads ((48 + n % 10) ∷ rest) in
+          ap (leading in-field) (append-assoc ds ((48 + n % 10) ∷ []) rest) ∙ omega (arith, q, t);
       some = omega arith;
       first = let g = getD-append-left ds ((48 + n % 10) ∷ []) 0 0 (p .some) in omega (arith, p .first);
     }
@@ -97,16 +94,16 @@ field-back : (text rest : List ℕ) (at v row k : ℕ) → v < 10000000 → drop
 field-back text rest at v row k h e z =
     let p = decimal-is v (omega arith) in
     let n : field-length (drop at text) ≡ length (decimal v) =
-      ap (leading in-field) e ∙ p .leads rest ∙ ap (λ j. length (decimal v) + j) z ∙ add-zero (length (decimal v)) in
+    ap (leading in-field) e ∙ p .leads rest ∙ ap (λ j. length (decimal v) + j) z ∙ add-zero (length (decimal v)) in
     let bytes : field-bytes (drop at text) ≡ decimal v =
-      ap (λ j. take j (drop at text)) n ∙ ap (take (length (decimal v))) e ∙ take-at (decimal v) rest (length (decimal v)) refl in
+    ap (λ j. take j (drop at text)) n ∙ ap (take (length (decimal v))) e ∙ take-at (decimal v) rest (length (decimal v)) refl in
     ap (λ j. field-by row k (at + j) (field-number (field-bytes (drop at text)))) n
     ∙ ap (λ ds. field-by row k (at + length (decimal v)) (field-number ds)) bytes
     ∙ ap (field-by row k (at + length (decimal v))) (number-back v h)
 
 -- a field and what follows it
 ended-back : (text rest : List ℕ) (at v row k end : ℕ) → v < 10000000 → drop at text ≡ decimal v ++ rest → leading in-field rest ≡ 0
-  → past-separator k (at + length (decimal v)) rest ≡ Some end → ended-field-at text at row k ≡ Ok (record { value = v; end = end })
+    → past-separator k (at + length (decimal v)) rest ≡ Some end → ended-field-at text at row k ≡ Ok (record { value = v; end = end })
 ended-back text rest at v row k end h e z s =
     ap (field-then-end text row k) (field-back text rest at v row k h e z)
     ∙ ap (λ bs. ended-by row v (past-separator k (at + length (decimal v)) bs)) (next text (decimal v) rest at e)
@@ -135,13 +132,13 @@ abbrev pub Small : Task → Type 0
 Small x = (x .c < 10000000) × (x .d < 10000000) × (x .t < 10000000) × (x .p1 < 10000000) × (x .p2 < 10000000) × (x .s < 10000000)
 
 record-from : (text : List ℕ) (at row : ℕ) (c d t p1 p2 s : Field)
-  → ended-field-at text at row 1 ≡ Ok c
-  → ended-field-at text (c .end) row 2 ≡ Ok d
-  → ended-field-at text (d .end) row 3 ≡ Ok t
-  → ended-field-at text (t .end) row 4 ≡ Ok p1
-  → ended-field-at text (p1 .end) row 5 ≡ Ok p2
-  → ended-field-at text (p2 .end) row 6 ≡ Ok s
-  → record-at text at row ≡ Ok (record { task = record { c = c .value; d = d .value; t = t .value; p1 = p1 .value; p2 = p2 .value; s = s .value }; end = s .end })
+    → ended-field-at text at row 1 ≡ Ok c
+    → ended-field-at text (c .end) row 2 ≡ Ok d
+    → ended-field-at text (d .end) row 3 ≡ Ok t
+    → ended-field-at text (t .end) row 4 ≡ Ok p1
+    → ended-field-at text (p1 .end) row 5 ≡ Ok p2
+    → ended-field-at text (p2 .end) row 6 ≡ Ok s
+    → record-at text at row ≡ Ok (record { task = record { c = c .value; d = d .value; t = t .value; p1 = p1 .value; p2 = p2 .value; s = s .value }; end = s .end })
 record-from text at row c d t p1 p2 s e1 e2 e3 e4 e5 e6 = simp (e1, e2, e3, e4, e5, e6)
 
 record-back : (text rest : List ℕ) (at row : ℕ) (x : Task) → Small x → drop at text ≡ record-text x ++ rest → record-at text at row ≡ Ok (record { task = x; end = at + length (record-text x) })
@@ -165,14 +162,14 @@ record-back text rest at row x h e =
     let g5 = next text f4 (f5 ++ (f6 ++ (10 ∷ rest))) a4 g4 in
     let g6 = next text f5 (f6 ++ (10 ∷ rest)) a5 g5 in
     let w = record-from text at row
-      (record { value = x .c; end = a2 }) (record { value = x .d; end = a3 }) (record { value = x .t; end = a4 })
-      (record { value = x .p1; end = a5 }) (record { value = x .p2; end = a6 }) (record { value = x .s; end = a6 + (length f6 + 1) })
-      (comma-back text _ at (x .c) row 1 (h .0) (omega arith) g1)
-      (comma-back text _ a2 (x .d) row 2 (h .1) (omega arith) g2)
-      (comma-back text _ a3 (x .t) row 3 (h .2) (omega arith) g3)
-      (comma-back text _ a4 (x .p1) row 4 (h .3) (omega arith) g4)
-      (comma-back text _ a5 (x .p2) row 5 (h .4) (omega arith) g5)
-      (last-back text rest a6 (x .s) row (h .5) g6) in
+    (record { value = x .c; end = a2 }) (record { value = x .d; end = a3 }) (record { value = x .t; end = a4 })
+    (record { value = x .p1; end = a5 }) (record { value = x .p2; end = a6 }) (record { value = x .s; end = a6 + (length f6 + 1) })
+    (comma-back text _ at (x .c) row 1 (h .0) (omega arith) g1)
+    (comma-back text _ a2 (x .d) row 2 (h .1) (omega arith) g2)
+    (comma-back text _ a3 (x .t) row 3 (h .2) (omega arith) g3)
+    (comma-back text _ a4 (x .p1) row 4 (h .3) (omega arith) g4)
+    (comma-back text _ a5 (x .p2) row 5 (h .4) (omega arith) g5)
+    (last-back text rest a6 (x .s) row (h .5) g6) in
     let n : a6 + (length f6 + 1) ≡ at + length (record-text x) = simp length-append (omega arith) in
     w ∙ ap (λ j. Ok (record { task = x; end = j })) n
 
@@ -198,7 +195,7 @@ records-back (y ∷ ys) n at acc text e fuel add =
     let after : acc ++ y ∷ [] ≡ tasks-by acc y (add-fault acc y) = ap (tasks-by acc y) (sym (add .0)) in
     read-step n (n - 1) text (progress acc at) (omega arith) (omega arith)
     ∙ ap (λ q. after-record q (read-records (n - 1) text))
-        (next-added text at (row-after acc) acc (acc ++ y ∷ []) (record { task = y; end = at + length (record-text y) }) (length acc) refl
-          (sym (record-back text (joined record-text ys) at (row-after acc) y (add .1) e)) added after)
+    (next-added text at (row-after acc) acc (acc ++ y ∷ []) (record { task = y; end = at + length (record-text y) }) (length acc) refl
+    (sym (record-back text (joined record-text ys) at (row-after acc) y (add .1) e)) added after)
     ∙ records-back ys (n - 1) (at + length (record-text y)) (acc ++ y ∷ []) text (next text (record-text y) (joined record-text ys) at e) (omega arith) (add .2)
     ∙ ap (λ r. Ok r) (append-assoc acc (y ∷ []) ys)

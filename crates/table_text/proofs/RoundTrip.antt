@@ -1,26 +1,23 @@
 -- Every table's text reads as that table.
-use Prim.Native.Nat.{ℕ, zero, suc, _+_, _*_, _<_, _≤_, _^_}
+use Prim.Native.Nat.{_+_, _*_, _≤_}
 use native.Mathlib.Omega.{arith}
 use mathlib.Core.Path.{_≡_, refl, sym, ap, subst, _∙_}
 use mathlib.Core.List.{List, [], _∷_, _++_, append-assoc}
 use lib.ListN.{length, getD, take, drop}
 use Rattle.std.specs.Joined.{joined}
-use Rattle.std.specs.declared.option.Option.the-variants.{Some, None}
-use Rattle.std.specs.declared.result.Result.the-variants.{Ok}
-use Rattle.std.proofs.shelf.Lists.{length-append, length-push, getD-at, take-at, append-nil}
+use Rattle.std.specs.declared.option.Option.the-variants.{Some}
+use Rattle.std.proofs.shelf.Lists.{length-append, length-push, getD-at, take-at}
 use Rattle.tables.specs.declared.task.Task.{Task}
 use Rattle.tables.specs.declared.table.Table.{Table}
 use Rattle.tables.specs.Divisors.{lcm}
 use Rattle.tables.specs.Tasks.{nobody, Each, Timed, Ranked}
 use Rattle.tables.specs.Hyperperiod.{hyperperiod-of}
-use Rattle.tables.specs.Adding.{add-fault}
 use Rattle.tables.specs.Tables.{tasks-of}
 use Rattle.tables.proofs.Multiples.{Positive, hyper-push, hyper-front}
 use Rattle.tables.proofs.Counted.{tasks-few, positive}
 use Rattle.tables.proofs.Added.{timely-is, well-ranked-is, fault-none}
-use Rattle.table_text.specs.Reading.{past-header, read-after, read-records, read-table}
-use Rattle.table_text.specs.Records.{progress}
-use Rattle.table_text.specs.Written.{field-text, record-text, table-text, ReadsBack}
+use Rattle.table_text.specs.Reading.{past-header, read-after}
+use Rattle.table_text.specs.Written.{record-text, table-text, ReadsBack}
 use Rattle.table_text.proofs.Steps.{table-after-header}
 use Rattle.table_text.proofs.Texts.{field-short}
 use Rattle.table_text.proofs.Back.{Small, Addable, records-back}
@@ -32,8 +29,15 @@ record-short : (x : Task) → Small x → length (record-text x) ≤ 67
 unfolding record-text
 record-short x h =
     simp length-append
-    (omega (arith, field-short (x .c) 44 (omega arith), field-short (x .d) 44 (omega arith), field-short (x .t) 44 (omega arith),
-      field-short (x .p1) 44 (omega arith), field-short (x .p2) 44 (omega arith), field-short (x .s) 13 (omega arith)))
+    (omega (
+      arith,
+      field-short (x .c) 44 (omega arith),
+      field-short (x .d) 44 (omega arith),
+      field-short (x .t) 44 (omega arith),
+      field-short (x .p1) 44 (omega arith),
+      field-short (x .p2) 44 (omega arith),
+      field-short (x .s) 13 (omega arith),
+    ))
 
 records-short : (acc ys : List Task) → Addable acc ys → length (joined record-text ys) ≤ length ys * 67
 records-short acc [] add = omega arith

@@ -7,6 +7,7 @@ ghost use Rattle.std.specs.Slices.{found};
 ghost use Rattle.std.specs.declared.result.Result.the-variants.{Ok, Err};
 ghost use Rattle.tables.specs.Tables.{«tasks-of»};
 ghost use Rattle.table_text.specs.Records.{progress};
+ghost use Rattle.table_text.specs.Written.{ReadsBack};
 ghost use Rattle.table_text.specs.Reading.{«past-header», «read-records», «read-answer», «tasks-after-reading»};
 use crate::bytes::HEADER;
 use crate::records::add_record;
@@ -46,6 +47,7 @@ fn read_records(text: &[u8], start: usize) -> Result<Table, ReadRefusal>
 pub fn read(text: &[u8], target: &mut Table) -> Result<(), ReadRefusal>
     ensures answer { λ r. ⌜ r ≡ read-answer (now (text .entry)) ⌝ }
     ensures tasks_after { λ _. ⌜ tasks-of (now (target .exit)) ≡ tasks-after-reading (tasks-of (now (target .entry))) (now (text .entry)) ⌝ }
+    ensures written_again_reads_the_same { λ r. ⌜ Cases r (λ _. ReadsBack (tasks-of (now (target .exit)))) (λ _. Unit {0}) ⌝ }
     ensures same_if_refused { λ r. ⌜ Cases r (λ _. Unit {0}) (λ _. now (target .exit) ≡ now (target .entry)) ⌝ }
 {
     let most = 4_096;

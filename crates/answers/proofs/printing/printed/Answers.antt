@@ -1,10 +1,10 @@
 use native.Mathlib.Omega.{arith}
-use mathlib.Core.Path.{_≡_, ap, _∙_}
+use mathlib.Core.Path.{ap, _∙_}
 use mathlib.Core.List.{[], _++_}
 use Rattle.std.proofs.shelf.Lists.{length-append}
 use Rattle.lines.specs.Lines.{bytes-of, pushed}
 use Rattle.lines.proofs.Pushed.{pushed-next, pushed-all}
-use Rattle.answers.specs.Texts.{header-text, columns-text, columns-of}
+use Rattle.answers.specs.Texts.{header-text, columns-text}
 use Rattle.answers.proofs.printing.printed.Needs as need
 
 pub returns : need.returns

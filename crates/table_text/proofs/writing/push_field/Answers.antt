@@ -10,6 +10,6 @@ use Rattle.table_text.proofs.writing.push_field.Needs as need
 pub returns : need.returns
 unfolding field-text
 returns c = record {
-    after = pushed-next (bytes-of (c .args .line .now)) (bytes-of (c .push-number .last .self)) (bytes-of (c .push .last .self)) (decimal (c .args .v)) (c .args .b ∷ []) (c .push-number .ensures) (c .push .ensures);
-    short = field-short (c .args .v) (c .args .b) (omega arith);
+  after = pushed-next (bytes-of (c .args .line .now)) (bytes-of (c .push-number .last .self)) (bytes-of (c .push .last .self)) (decimal (c .args .v)) (c .args .b ∷ []) (c .push-number .ensures) (c .push .ensures);
+  short = field-short (c .args .v) (c .args .b) (omega arith);
 }

@@ -1,5 +1,5 @@
 use Prim.Native.Nat.{_+_}
-use mathlib.Core.Path.{_≡_, ap, sym, subst, _∙_}
+use mathlib.Core.Path.{ap, _∙_}
 use mathlib.Core.List.{_++_}
 use native.Mathlib.Omega.{arith}
 use lib.ListN.{length, getD, take}
@@ -27,10 +27,11 @@ loop-x-again c =
     let o = c .args .out .now in
     let a = c .loop-x .out in
     let p = c .put-bytes-at in
-    let put = put-as a (p .last .out) (c .loop-x .at) (p .result) (c .bytes .result .now) (record-text (getD xs i nobody)) text (p .ensures) in
-    (put-as o (p .last .out) (c .args .start) (p .result) (joined record-text (take i xs) ++ record-text (getD xs i nobody)) (joined record-text (take (i + 1) xs)) (records-more xs i (omega arith))
-      (put-then o a (p .last .out) (c .args .start) (c .loop-x .at) (p .result) (joined record-text (take i xs)) (record-text (getD xs i nobody)) (c .loop-x .inv .0) put),
-     omega (arith, p .ensures .place))
+    let put = put-as a (p .last .out) (c .loop-x .at) (p .result) (c .bytes .result .now) (record-text (getD xs i nobody)) text (p .ensures) in (
+      put-as o (p .last .out) (c .args .start) (p .result) (joined record-text (take i xs) ++ record-text (getD xs i nobody)) (joined record-text (take (i + 1) xs)) (records-more xs i (omega arith))
+          (put-then o a (p .last .out) (c .args .start) (c .loop-x .at) (p .result) (joined record-text (take i xs)) (record-text (getD xs i nobody)) (c .loop-x .inv .0) put),
+      omega (arith, p .ensures .place),
+    )
 
 pub returns : need.returns
 returns c =

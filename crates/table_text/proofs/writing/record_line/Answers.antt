@@ -1,5 +1,5 @@
 use native.Mathlib.Omega.{arith}
-use mathlib.Core.Path.{_≡_, ap, _∙_}
+use mathlib.Core.Path.{ap, _∙_}
 use mathlib.Core.List.{[], _∷_, _++_}
 use Rattle.std.proofs.shelf.Lists.{length-append}
 use Rattle.lines.specs.Lines.{bytes-of, pushed}
@@ -25,12 +25,12 @@ returns c =
     let t2 = field-text (x .d) 44 ++ t3 in
     record {
       bytes =
-        pushed-next [] (bytes-of (p1 .last .line)) last (field-text (x .c) 44) t2 (p1 .ensures .after ∙ ap (λ l. pushed l (field-text (x .c) 44)) (c .new-line .ensures))
-        (pushed-next (bytes-of (p1 .last .line)) (bytes-of (p2 .last .line)) last (field-text (x .d) 44) t3 (p2 .ensures .after)
-        (pushed-next (bytes-of (p2 .last .line)) (bytes-of (p3 .last .line)) last (field-text (x .t) 44) t4 (p3 .ensures .after)
-        (pushed-next (bytes-of (p3 .last .line)) (bytes-of (p4 .last .line)) last (field-text (x .p1) 44) t5 (p4 .ensures .after)
-        (pushed-next (bytes-of (p4 .last .line)) (bytes-of (p5 .last .line)) last (field-text (x .p2) 44) t6 (p5 .ensures .after)
-        (pushed-next (bytes-of (p5 .last .line)) (bytes-of (p6 .last .line)) last (field-text (x .s) 13) (10 ∷ []) (p6 .ensures .after) (c .push .ensures))))))
-        ∙ pushed-all [] (field-text (x .c) 44 ++ t2) (simp length-append (omega (arith, p1 .ensures .short, p2 .ensures .short, p3 .ensures .short, p4 .ensures .short, p5 .ensures .short, p6 .ensures .short)));
+          pushed-next [] (bytes-of (p1 .last .line)) last (field-text (x .c) 44) t2 (p1 .ensures .after ∙ ap (λ l. pushed l (field-text (x .c) 44)) (c .new-line .ensures))
+          (pushed-next (bytes-of (p1 .last .line)) (bytes-of (p2 .last .line)) last (field-text (x .d) 44) t3 (p2 .ensures .after)
+          (pushed-next (bytes-of (p2 .last .line)) (bytes-of (p3 .last .line)) last (field-text (x .t) 44) t4 (p3 .ensures .after)
+          (pushed-next (bytes-of (p3 .last .line)) (bytes-of (p4 .last .line)) last (field-text (x .p1) 44) t5 (p4 .ensures .after)
+          (pushed-next (bytes-of (p4 .last .line)) (bytes-of (p5 .last .line)) last (field-text (x .p2) 44) t6 (p5 .ensures .after)
+          (pushed-next (bytes-of (p5 .last .line)) (bytes-of (p6 .last .line)) last (field-text (x .s) 13) (10 ∷ []) (p6 .ensures .after) (c .push .ensures))))))
+          ∙ pushed-all [] (field-text (x .c) 44 ++ t2) (simp length-append (omega (arith, p1 .ensures .short, p2 .ensures .short, p3 .ensures .short, p4 .ensures .short, p5 .ensures .short, p6 .ensures .short)));
       short = simp length-append (omega (arith, p1 .ensures .short, p2 .ensures .short, p3 .ensures .short, p4 .ensures .short, p5 .ensures .short, p6 .ensures .short));
     }

@@ -1,9 +1,6 @@
-use Prim.Native.Nat.{_≤_}
-use mathlib.Core.Path.{_≡_, ap, _∙_}
+use mathlib.Core.Path.{ap, _∙_}
 use native.Mathlib.Omega.{arith}
 use lib.ListN.{length}
-use Rattle.std.proofs.shelf.Lists.{length-append}
-use Rattle.table_text.specs.Written.{record-text}
 use Rattle.table_text.proofs.Texts.{length-records-more, length-records-all}
 use Rattle.table_text.proofs.writing.text_length.Needs as need
 

@@ -2,14 +2,13 @@ use Prim.Native.Nat.{ℕ, _<_, _≤_}
 use mathlib.Core.Path.{_≡_, refl, sym, ap, _∙_}
 use mathlib.Core.List.{List, [], _∷_, _++_}
 use native.Mathlib.Omega.{arith}
-use lib.ListN.{length, take, drop}
+use lib.ListN.{length, drop}
 use Rattle.std.specs.Joined.{joined}
 use Rattle.std.specs.declared.result.Result.the-variants.{Ok, Err}
-use Rattle.std.proofs.shelf.Lists.{length-append, take-append-drop}
+use Rattle.std.proofs.shelf.Lists.{take-append-drop}
 use Rattle.std.proofs.shelf.Tests.{cond-true, cond-false, le-leb, lt-leb}
 use Rattle.refusals.specs.declared.kinds.WriteRefusal.the-variants.{BufferTooShort}
 use Rattle.tables.specs.Tables.{tasks-of}
-use Rattle.tables.proofs.Counted.{tasks-few}
 use Rattle.table_text.specs.Puts.{Put}
 use Rattle.table_text.specs.Reading.{header}
 use Rattle.table_text.specs.Written.{record-text, table-text, write-answer, buffer-after}
@@ -21,9 +20,10 @@ use Rattle.table_text.proofs.writing.write.Needs as need
 put-whole : (text before after : List ℕ) (n : ℕ) → length text ≤ length before → Put before after 0 n text → (Ok n ≡ write-answer text before) × (after ≡ buffer-after text before)
 put-whole text before after n fits put =
     let t = le-leb (length text) (length before) fits in
-    let here : n ≡ length text = put .place ∙ omega arith in
-    (ap Ok here ∙ sym (cond-true _ _ _ t),
-     sym (take-append-drop n after) ∙ ap (λ l. l ++ drop n after) (put .front) ∙ ap (λ r. text ++ r) (put .back) ∙ ap (λ k. text ++ drop k before) here ∙ sym (cond-true _ _ _ t))
+    let here : n ≡ length text = put .place ∙ omega arith in (
+      ap Ok here ∙ sym (cond-true _ _ _ t),
+      sym (take-append-drop n after) ∙ ap (λ l. l ++ drop n after) (put .front) ∙ ap (λ r. text ++ r) (put .back) ∙ ap (λ k. text ++ drop k before) here ∙ sym (cond-true _ _ _ t),
+    )
 
 -- a buffer that is too short
 too-short : (text before : List ℕ) → length before < length text → (Err BufferTooShort ≡ write-answer text before) × (before ≡ buffer-after text before)
