@@ -34,23 +34,36 @@ smaller-chain None None (Some z) i j k r s t rest p q = grind arith
 smaller-chain None None None i j k r s t rest p q = rest p q
 
 module _ (key : ℕ → ℕ → Option ℤ) (m : Meaning) where
-  pub by-key-exclusive : Exclusive m → Exclusive (by-key key m)
+  by-key-exclusive : Exclusive m → Exclusive (by-key key m)
   by-key-exclusive law i a j b hi ha hj hb ne =
       precedes-different (key j b) (key i a) j i (m j b i a) (λ e. ne (sym e))
       ∙ one-smaller (key i a) (key j b) i j (m i a j b) (m j b i a) ne (law i a j b hi ha hj hb ne)
       ∙ ap not (sym (precedes-different (key i a) (key j b) i j (m i a j b) ne))
 
-  pub by-key-transitive : Transitive m → Transitive (by-key key m)
+  by-key-transitive : Transitive m → Transitive (by-key key m)
   by-key-transitive law i a j b k c hi ha hj hb hk hc ij jk ik p q =
       precedes-different (key i a) (key k c) i k (m i a k c) ik
       ∙ smaller-chain (key i a) (key j b) (key k c) i j k (m i a j b) (m j b k c) (m i a k c) (law i a j b k c hi ha hj hb hk hc ij jk ik)
       (sym (precedes-different (key i a) (key j b) i j (m i a j b) ij) ∙ p) (sym (precedes-different (key j b) (key k c) j k (m j b k c) jk) ∙ q)
 
-  pub by-key-irreflexive : Irreflexive (by-key key m)
+  by-key-irreflexive : Irreflexive (by-key key m)
   by-key-irreflexive i a b hi ha hb = cond-true (eqb i i) false (smaller-key (key i a) i (key i b) i (m i a i b)) (eq-eqb i i refl)
 
-pub by-number-exclusive : Exclusive by-number
+by-number-exclusive : Exclusive by-number
 by-number-exclusive i a j b hi ha hj hb ne = grind (arith, tells)
 
-pub by-number-transitive : Transitive by-number
+by-number-transitive : Transitive by-number
 by-number-transitive i a j b k c hi ha hj hb hk hc ij jk ik p q = grind (arith, tells)
+
+pub record Lawful (m : Meaning) : Type 0 where
+  pub exclusive : Exclusive m
+  pub transitive : Transitive m
+  pub irreflexive : Irreflexive m
+
+-- whatever the key is: over a lawful ordering, and over the task numbers
+pub by-key-lawful : (key : ℕ → ℕ → Option ℤ) (m : Meaning) → Exclusive m → Transitive m → Lawful (by-key key m)
+by-key-lawful key m exclusive transitive =
+    record { exclusive = by-key-exclusive key m exclusive; transitive = by-key-transitive key m transitive; irreflexive = by-key-irreflexive key m }
+
+pub key-then-number : (key : ℕ → ℕ → Option ℤ) → Lawful (by-key key by-number)
+key-then-number key = by-key-lawful key by-number by-number-exclusive by-number-transitive
