@@ -1,1 +1,4 @@
+pub mod Laws
 pub mod Keyed
+pub mod Placed
+pub mod Backed

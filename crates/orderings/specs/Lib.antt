@@ -4,3 +4,6 @@ pub mod TwoPhase
 pub mod Fixed
 pub mod Deadline
 pub mod Promotion
+pub mod Places
+pub mod BackgroundList
+pub mod Background

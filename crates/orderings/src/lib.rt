@@ -1,3 +1,7 @@
+pub mod background;
+pub mod background_calls;
+pub mod background_list;
+pub mod background_places;
 pub mod deadline;
 pub mod fixed;
 mod keys;
