@@ -26,5 +26,5 @@ unless-same-lawful m exclusive transitive =
           different m j b i a (λ e. ne (sym e)) ∙ exclusive i a j b hi ha hj hb ne ∙ ap not (sym (different m i a j b ne));
       transitive = λ i a j b k c hi ha hj hb hk hc ij jk ik p q.
           different m i a k c ik ∙ transitive i a j b k c hi ha hj hb hk hc ij jk ik (sym (different m i a j b ij) ∙ p) (sym (different m j b k c jk) ∙ q);
-      irreflexive = λ i a b hi ha hb. cond-true (eqb i i) false (m i a i b) (eq-eqb i i refl)
+      irreflexive = λ i a b hi ha hb. cond-true (eqb i i) false (m i a i b) (eq-eqb i i refl);
     }

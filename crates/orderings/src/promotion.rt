@@ -31,14 +31,8 @@ fn key(table: &Table, i: u32, a: u32) -> Option<i64>
     ensures { λ r. ⌜ r ≡ promotion-key (tasks-of (now (table .entry))) i a ⌝ }
 {
     match table.get(i) {
-        Some(t) => {
-            if a < t.s {
-                None
-            } else {
-                Some(i64::from(t.p2))
-            }
-        }
-        None => None,
+        Some(t) if t.s <= a => Some(i64::from(t.p2)),
+        _ => None,
     }
 }
 

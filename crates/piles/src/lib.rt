@@ -53,10 +53,10 @@ mod tests {
         Verdict::Misses(Miss { task, instant })
     }
 
-    // Task 0 in the background, then promotion, then the ordering given.
-    fn pile<O>(table: &Table, lowest: O) -> BackgroundLayer<PromotionLayer<O>> {
+    // A task in the background, over promotion, over the ordering given.
+    fn pile<O>(table: &Table, task: u32, lowest: O) -> BackgroundLayer<PromotionLayer<O>> {
         let mut list = BackgroundList::new();
-        let _ = list.take(0);
+        let _ = list.take(task);
         BackgroundLayer::new(&list, PromotionLayer::new(table, lowest))
     }
 
@@ -79,26 +79,35 @@ mod tests {
         check_eq(Verdict::of(&late, &over_late), miss(1, 6))
     }
 
-    // Three deep, over an ordering of this repository's and over one of another crate.
+    // There is no task 7, so that promotion and the ordering at the bottom decide.
     #[test]
     fn verdicts_under_a_pile() -> Result<(), Fail> {
         let table = table(4, 5)?;
-        check_eq(
-            Verdict::of(&table, &pile(&table, Fixed::new(&table))),
-            miss(0, 4),
-        )?;
-        check_eq(Verdict::of(&table, &pile(&table, ByNumber)), miss(0, 4))
+        let nobody_behind = pile(&table, 7, Fixed::new(&table));
+        let first_behind = pile(&table, 0, Fixed::new(&table));
+        check_eq(Verdict::of(&table, &nobody_behind), Verdict::Holds)?;
+        check_eq(Verdict::of(&table, &first_behind), miss(0, 4))
     }
 
-    // Task 1 runs first, since task 0 is in the background, at whatever priority.
+    // The ordering at the bottom is of another crate.
+    #[test]
+    fn an_added_ordering_below_the_layers() -> Result<(), Fail> {
+        let table = table(4, 5)?;
+        let nobody_behind = pile(&table, 7, ByNumber);
+        let first_behind = pile(&table, 0, ByNumber);
+        check_eq(Verdict::of(&table, &nobody_behind), Verdict::Holds)?;
+        check_eq(Verdict::of(&table, &first_behind), miss(0, 4))
+    }
+
+    // Task 1 runs first where task 0 is in the background.
     #[test]
     fn runs_under_a_pile() -> Result<(), Fail> {
         let table = table(4, 5)?;
-        let over_fixed = pile(&table, Fixed::new(&table));
-        let over_numbers = pile(&table, ByNumber);
+        let over_fixed = pile(&table, 7, Fixed::new(&table));
+        let over_numbers = pile(&table, 0, ByNumber);
         let mut one = Run::new(&table, &over_fixed);
         let mut other = Run::new(&table, &over_numbers);
-        check_eq(one.tick()?.0, Some(1))?;
+        check_eq(one.tick()?.0, Some(0))?;
         check_eq(other.tick()?.0, Some(1))
     }
 }
