@@ -6,14 +6,15 @@ use mathlib.Core.Logic.{_≢_, inl, inr}
 use Prim.Native.Nat.{ℕ, zero, suc, _+_, _<_, _≤_}
 use native.Mathlib.Omega.{arith}
 use lib.Dec.{eqb}
-use lib.ListN.{length, getD}
+use lib.ListN.{length, getD, set, take}
 use Rattle.std.specs.Options.{isSome}
 use Rattle.std.specs.declared.option.Option.{Option}
 use Rattle.std.specs.declared.option.Option.the-variants.{Some, None}
 use Rattle.std.proofs.shelf.Tests.{cond-true, cond-false, eq-eqb, ne-eqb, lt-ltb, cases-eq, cases-lt}
-use Rattle.std.proofs.shelf.Lists.{getD-append-left, getD-push, getD-take, length-push, length-take-le}
-use Rattle.orderings.specs.Places.{NoneTwice, place-from, place-in}
+use Rattle.std.proofs.shelf.Lists.{getD-append-left, getD-push, getD-take, length-push, length-take-le, take-more-set}
+use Rattle.orderings.specs.Places.{listed, NoneTwice, place-from, place-in}
 use Rattle.orderings.specs.BackgroundList.{numbers-of, takes-number}
+use Rattle.orderings.specs.declared.background_places.Places.{Places}
 use Rattle.orderings.specs.declared.background_list.BackgroundList.{BackgroundList}
 
 here : (k x : ℕ) (xs : List ℕ) (n : ℕ) → x ≡ n → place-from k (x ∷ xs) n ≡ Some k
@@ -108,3 +109,10 @@ numbers-count l =
 
 pub numbers-at : (l : BackgroundList) (k : ℕ) → k < l .places .count → getD (numbers-of l) k 0 ≡ getD (l .places .numbers) k 0
 numbers-at l k h = getD-take (l .places .count) (l .places .numbers) k 0 h
+
+-- a number written behind the others stands at the end of the list
+pub pushed : (l : BackgroundList) (p : Places) (n : ℕ) → l .places .count < 32 → p .numbers ≡ set (l .places .numbers) (l .places .count) n → p .count ≡ l .places .count + 1
+    → listed p ≡ numbers-of l ++ n ∷ []
+pushed l p n room numbers count =
+    let wide : length (l .places .numbers) ≡ 32 = l .wide in
+    ap (λ k. take k (p .numbers)) count ∙ ap (take (l .places .count + 1)) numbers ∙ take-more-set (l .places .numbers) (l .places .count) n (omega arith)

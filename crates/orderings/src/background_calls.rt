@@ -42,16 +42,14 @@ impl BackgroundList {
         ensures numbers_after { λ _. ⌜ numbers-of (now (self .exit)) ≡ numbers-after-taking (numbers-of (now (self .entry))) number ⌝ }
         ensures same_if_not_taken { λ r. ⌜ (r ≡ false → now (self .exit) ≡ now (self .entry)) ⌝ }
     {
-        let n = self.places.count;
         let room = 32;
-        if n >= room {
+        if self.places.count >= room {
             return false;
         }
         if self.place(number).is_some() {
             return false;
         }
-        self.places.numbers[n] = number;
-        self.places.count = n + 1;
+        self.places.push(number);
         true
     }
 
