@@ -1,5 +1,9 @@
 use answers::input::ROOM;
 use answers::input::fill;
+use orderings::deadline::Deadline;
+use orderings::deadline::DeadlineOrdering;
+use orderings::fixed::Fixed;
+use orderings::fixed::FixedOrdering;
 use orderings::two_phase::TwoPhase;
 use orderings::two_phase::TwoPhaseOrdering;
 use refusals::kinds::ReadRefusal;
@@ -94,21 +98,28 @@ fn tell_jobs(rt: &LibcRuntime, instant: u32, table: &Table, run: &Run<TwoPhase>)
     Ok(())
 }
 
-fn tell_verdict(rt: &LibcRuntime, verdict: Verdict) -> io::Result<()> {
+fn tell_verdict(rt: &LibcRuntime, ordering: &str, verdict: Verdict) -> io::Result<()> {
     match verdict {
         Verdict::Holds => println!(
             rt,
-            "Verdict: holds. No tick of the endless full schedule misses a deadline."
+            "Verdict under {ordering}: holds. No tick of the endless full schedule misses a deadline."
         ),
         Verdict::Misses(miss) => {
             let task = miss.task;
             let instant = miss.instant;
             println!(
                 rt,
-                "Verdict: miss. The first deadline missed is that of task {task} at instant {instant}."
+                "Verdict under {ordering}: miss. The first deadline missed is that of task {task} at instant {instant}."
             )
         }
     }
+}
+
+// The same table under three orderings.
+fn tell_verdicts(rt: &LibcRuntime, table: &Table) -> io::Result<()> {
+    tell_verdict(rt, "two-phase", Verdict::of(table, &TwoPhase::new(table)))?;
+    tell_verdict(rt, "fixed", Verdict::of(table, &Fixed::new(table)))?;
+    tell_verdict(rt, "deadline", Verdict::of(table, &Deadline::new(table)))
 }
 
 // One tick of the run, told; false where the run came to a miss.
@@ -147,7 +158,7 @@ fn tell_run(rt: &LibcRuntime, table: &Table) -> io::Result<()> {
     if TOLD < table.hyperperiod() {
         println!(rt, "At most {TOLD} units are told.")?;
     }
-    tell_verdict(rt, Verdict::of(table, &ordering))
+    tell_verdicts(rt, table)
 }
 
 fn main(rt: LibcRuntime) -> io::Result<()> {
