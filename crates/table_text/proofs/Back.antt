@@ -139,7 +139,7 @@ record-from : (text : List ℕ) (at row : ℕ) (c d t p1 p2 s : Field)
     → ended-field-at text (p1 .end) row 5 ≡ Ok p2
     → ended-field-at text (p2 .end) row 6 ≡ Ok s
     → record-at text at row ≡ Ok (record { task = record { c = c .value; d = d .value; t = t .value; p1 = p1 .value; p2 = p2 .value; s = s .value }; end = s .end })
-record-from text at row c d t p1 p2 s e1 e2 e3 e4 e5 e6 = simp (e1, e2, e3, e4, e5, e6)
+record-from text at row c d t p1 p2 s q1 q2 q3 q4 q5 q6 = simp (q1, q2, q3, q4, q5, q6)
 
 record-back : (text rest : List ℕ) (at row : ℕ) (x : Task) → Small x → drop at text ≡ record-text x ++ rest → record-at text at row ≡ Ok (record { task = x; end = at + length (record-text x) })
 unfolding record-text
