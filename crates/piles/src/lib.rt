@@ -1,4 +1,4 @@
-// Orderings and piles of layers, on one table: what each of them has run, and the verdict that it gives.
+// Orderings and piles of layers, on one table: what each of them has run, the verdict that it gives, and a live run.
 #[cfg(test)]
 mod tests {
     use by_number::ByNumber;
@@ -16,6 +16,11 @@ mod tests {
     use orderings::two_phase::TwoPhaseOrdering;
     use refusals::kinds::AddRefusal;
     use refusals::kinds::AddRefusalDebug;
+    use refusals::kinds::FinishRefusal;
+    use refusals::kinds::FinishRefusalDebug;
+    use refusals::kinds::FinishRefusalPartialEq;
+    use refusals::kinds::QuestionRefusal;
+    use refusals::kinds::QuestionRefusalDebug;
     use refusals::kinds::TickRefusal;
     use refusals::kinds::TickRefusalDebug;
     use schedules::run::Run;
@@ -109,5 +114,36 @@ mod tests {
         let mut other = Run::new(&table, &over_numbers);
         check_eq(one.tick()?.0, Some(0))?;
         check_eq(other.tick()?.0, Some(1))
+    }
+
+    // Where the first job of task 0 finishes at once, task 1 runs from the start.
+    #[test]
+    fn a_live_run_has_fewer_units_left_than_the_full_schedule() -> Result<(), Fail> {
+        let table = table(4, 5)?;
+        let ordering = PromotionLayer::new(&table, Fixed::new(&table));
+        let mut live = Run::new(&table, &ordering);
+        let mut full = Run::new(&table, &ordering);
+        live.finish_early(0)?;
+        for _ in 0..3 {
+            live.tick()?;
+            full.tick()?;
+        }
+        check_eq(live.age(1)?, full.age(1)?)?;
+        check_eq(live.left(1)?, 0)?;
+        check_eq(full.left(1)?, 2)
+    }
+
+    fn why(answer: Result<(), FinishRefusal>) -> Option<FinishRefusal> {
+        answer.err()
+    }
+
+    #[test]
+    fn an_early_finish_refused() -> Result<(), Fail> {
+        let table = table(4, 6)?;
+        let ordering = Fixed::new(&table);
+        let mut run = Run::new(&table, &ordering);
+        check_eq(why(run.finish_early(0)), None)?;
+        check_eq(why(run.finish_early(0)), Some(FinishRefusal::NotReady))?;
+        check_eq(why(run.finish_early(2)), Some(FinishRefusal::NoSuchTask))
     }
 }

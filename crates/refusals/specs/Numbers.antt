@@ -10,9 +10,10 @@ use Rattle.refusals.specs.declared.kinds.ReadRefusal.the-variants.{TextTooLong
 use Rattle.refusals.specs.declared.kinds.SetRefusal.the-variants as set
 use Rattle.refusals.specs.declared.kinds.QuestionRefusal.the-variants.{NoSuchTask}
 use Rattle.refusals.specs.declared.kinds.TickRefusal.the-variants.{RunEnded}
+use Rattle.refusals.specs.declared.kinds.FinishRefusal.the-variants as finish
 use Rattle.refusals.specs.declared.kinds.WriteRefusal.the-variants.{BufferTooShort}
 use Rattle.refusals.specs.declared.kinds.Refusal.{Refusal}
-use Rattle.refusals.specs.declared.kinds.Refusal.the-variants.{Reading, Adding, Setting, Asking, Ticking, Writing}
+use Rattle.refusals.specs.declared.kinds.Refusal.the-variants.{Reading, Adding, Setting, Asking, Ticking, Finishing, Writing}
 use Rattle.refusals.specs.declared.kinds.Place.{Place}
 
 -- a refused adding has the same number whether a call or a text asked for it
@@ -33,6 +34,9 @@ number-of (Setting set.NoSuchTask) = 9
 number-of (Setting set.PromotionOutOfBounds) = 7
 number-of (Asking NoSuchTask) = 9
 number-of (Ticking RunEnded) = 11
+number-of (Finishing finish.RunEnded) = 11
+number-of (Finishing finish.NoSuchTask) = 9
+number-of (Finishing finish.NotReady) = 10
 number-of (Writing BufferTooShort) = 13
 
 -- the header is record 1; field 0 stands for the whole record, record 0 for the whole text
@@ -49,4 +53,5 @@ place-of (Adding e) = None
 place-of (Setting e) = None
 place-of (Asking e) = None
 place-of (Ticking e) = None
+place-of (Finishing e) = None
 place-of (Writing e) = None

@@ -65,6 +65,17 @@ pub enum TickRefusal {
     RunEnded,
 }
 
+/// Why a job is not finished early.
+#[derive(Clone, Copy, Debug, PartialEq, Eq)]
+pub enum FinishRefusal {
+    /// The run came to a miss before, and has ended.
+    RunEnded,
+    /// There is no task of that number.
+    NoSuchTask,
+    /// The task's job has no units left.
+    NotReady,
+}
+
 /// Why a table is not written.
 #[derive(Clone, Copy, Debug, PartialEq, Eq)]
 pub enum WriteRefusal {
@@ -80,6 +91,7 @@ pub enum Refusal {
     Setting(SetRefusal),
     Asking(QuestionRefusal),
     Ticking(TickRefusal),
+    Finishing(FinishRefusal),
     Writing(WriteRefusal),
 }
 

@@ -1,6 +1,7 @@
 ghost use mathlib.Core.Path.{_≡_};
 ghost use Rattle.refusals.specs.Numbers.{«adding-number», «number-of», «place-of»};
 use crate::kinds::AddRefusal;
+use crate::kinds::FinishRefusal;
 use crate::kinds::Place;
 use crate::kinds::QuestionRefusal;
 use crate::kinds::ReadRefusal;
@@ -37,6 +38,9 @@ impl Refusal {
             Refusal::Setting(SetRefusal::PromotionOutOfBounds) => 7,
             Refusal::Asking(QuestionRefusal::NoSuchTask) => 9,
             Refusal::Ticking(TickRefusal::RunEnded) => 11,
+            Refusal::Finishing(FinishRefusal::RunEnded) => 11,
+            Refusal::Finishing(FinishRefusal::NoSuchTask) => 9,
+            Refusal::Finishing(FinishRefusal::NotReady) => 10,
             Refusal::Writing(WriteRefusal::BufferTooShort) => 13,
         }
     }
@@ -64,6 +68,7 @@ impl Refusal {
             Refusal::Setting(_) => None,
             Refusal::Asking(_) => None,
             Refusal::Ticking(_) => None,
+            Refusal::Finishing(_) => None,
             Refusal::Writing(_) => None,
         }
     }

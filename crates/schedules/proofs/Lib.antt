@@ -7,3 +7,6 @@ pub mod Served
 pub mod Viewed
 pub mod Endless
 pub mod Judged
+pub mod Finished
+pub mod Near
+pub mod Alive

@@ -3,13 +3,15 @@ use mathlib.Core.List.{List, map}
 use mathlib.Core.Bool.{Bool, true, false, cond}
 use mathlib.Core.Path.{_≡_}
 use Prim.Native.Nat.{ℕ, _<_}
-use lib.Dec.{ltb}
-use lib.ListN.{length, getD, take}
+use lib.Dec.{ltb, leb, eqb}
+use lib.ListN.{length, getD, take, set}
 use Rattle.std.specs.Options.{mapped}
 use Rattle.std.specs.declared.option.Option.{Option}
 use Rattle.std.specs.declared.option.Option.the-variants.{Some, None}
 use Rattle.std.specs.declared.result.Result.{Result}
 use Rattle.std.specs.declared.result.Result.the-variants.{Ok, Err}
+use Rattle.refusals.specs.declared.kinds.FinishRefusal.{FinishRefusal}
+use Rattle.refusals.specs.declared.kinds.FinishRefusal.the-variants as finish
 use Rattle.refusals.specs.declared.kinds.QuestionRefusal.{QuestionRefusal}
 use Rattle.refusals.specs.declared.kinds.QuestionRefusal.the-variants.{NoSuchTask}
 use Rattle.refusals.specs.declared.kinds.TickRefusal.{TickRefusal}
@@ -63,6 +65,28 @@ tick-miss ts m st = cond (st .ended) None (missed ts (unit-end m (st .slots)))
 abbrev pub tick-answer : List Task → Meaning → State → Result (Option ℕ × Option ℕ) TickRefusal
 tick-answer ts m st =
     cond (st .ended) (Err RunEnded) (Ok (mapped (λ j. j .task) (picked m (st .slots)), tick-miss ts m st))
+
+-- an early finish is for a job that is ready, of a run that goes on
+abbrev pub finish-fault : State → ℕ → Option FinishRefusal
+finish-fault st i =
+    cond (st .ended) (Some finish.RunEnded)
+    (cond (leb (length (st .slots)) i) (Some finish.NoSuchTask)
+    (cond (eqb (at (st .slots) i .left) 0) (Some finish.NotReady) None))
+
+abbrev pub finish-by : Option FinishRefusal → Result (Unit {0}) FinishRefusal
+finish-by None = Ok tt
+finish-by (Some e) = Err e
+
+abbrev pub finish-answer : State → ℕ → Result (Unit {0}) FinishRefusal
+finish-answer st i = finish-by (finish-fault st i)
+
+-- it leaves the job no units
+abbrev pub slots-finished : List Slot → ℕ → Option FinishRefusal → List Slot
+slots-finished ss i None = set ss i (record { age = at ss i .age; left = 0 })
+slots-finished ss i (Some e) = ss
+
+abbrev pub finished : State → ℕ → State
+finished st i = record { slots = slots-finished (st .slots) i (finish-fault st i); ended = st .ended }
 
 abbrev pub age-answer : State → ℕ → Result ℕ QuestionRefusal
 age-answer st i = cond (ltb i (length (st .slots))) (Ok (at (st .slots) i .age)) (Err NoSuchTask)

@@ -2,7 +2,7 @@ ghost use mathlib.Core.Path.{_≡_};
 ghost use Rattle.std.specs.Results.{Cases};
 ghost use Rattle.tables.specs.Tables.{«tasks-of»};
 ghost use Rattle.schedules.specs.Units.{AheadOfAllReady, LowestLate};
-ghost use Rattle.schedules.specs.Runs.{fresh, «unit-end», ticked, «tick-answer», «age-answer», «left-answer»};
+ghost use Rattle.schedules.specs.Runs.{fresh, «unit-end», ticked, «tick-answer», finished, «finish-answer», «age-answer», «left-answer»};
 ghost use Rattle.schedules.specs.Views.{«table-of-run», «tasks-of-run», «ordering-of-run», «state-of-run»};
 use crate::job::Job;
 use crate::run::Run;
@@ -11,6 +11,7 @@ use crate::slot::Slot;
 use crate::steps::fill;
 use crate::steps::front_unit;
 use orderings::ordering::Ordering;
+use refusals::kinds::FinishRefusal;
 use refusals::kinds::QuestionRefusal;
 use refusals::kinds::TickRefusal;
 use tables::table::Table;
@@ -59,6 +60,28 @@ impl<'t, 'o, O: Ordering> Run<'t, 'o, O> {
             self.progress.ended = true;
         }
         Ok((ran, miss))
+    }
+
+    /// The job of a task is done before it has used its budget: it has no units left. A refused call leaves the run.
+    pub fn finish_early(&mut self, i: u32) -> Result<(), FinishRefusal>
+        ensures answer { λ r. ⌜ r ≡ finish-answer (state-of-run (now (self .entry))) i ⌝ }
+        ensures after { λ _. ⌜ state-of-run (now (self .exit)) ≡ finished (state-of-run (now (self .entry))) i ⌝ }
+        ensures same_if_refused { λ r. ⌜ Cases r (λ _. Unit {0}) (λ _. now (self .exit) ≡ now (self .entry)) ⌝ }
+        ensures keeps_table { λ _. ⌜ now (self .exit) .table ≡ now (self .entry) .table ⌝ }
+        ensures keeps_ordering { λ _. ⌜ now (self .exit) .ordering ≡ now (self .entry) .ordering ⌝ }
+    {
+        if self.progress.ended {
+            return Err(FinishRefusal::RunEnded);
+        }
+        let k = i as usize;
+        if k >= self.table.len() {
+            return Err(FinishRefusal::NoSuchTask);
+        }
+        if self.progress.slots[k].left == 0 {
+            return Err(FinishRefusal::NotReady);
+        }
+        self.progress.slots[k].left = 0;
+        Ok(())
     }
 
     /// The units since the release of a task's present job. It works on an ended run, too.

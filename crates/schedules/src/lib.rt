@@ -1,3 +1,4 @@
+pub mod call;
 pub mod calls;
 pub mod job;
 pub mod order;

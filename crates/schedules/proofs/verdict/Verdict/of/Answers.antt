@@ -1,6 +1,6 @@
 use mathlib.Core.Path.{_≡_, sym, ap, _∙_}
 use mathlib.Core.Logic.{inl, inr}
-use Prim.Native.Nat.{ℕ, _+_, _-_, _≤_}
+use Prim.Native.Nat.{ℕ, _+_, _-_, _<_, _≤_}
 use native.Mathlib.Omega.{arith}
 use denote.Ref.{now}
 use mathlib.Core.List.{List}
@@ -8,14 +8,18 @@ use Rattle.std.proofs.shelf.Tests.{cases-lt}
 use Rattle.tables.specs.declared.task.Task.{Task}
 use Rattle.tables.specs.declared.table.Table.{Table}
 use Rattle.orderings.specs.Meaning.{Meaning}
-use Rattle.std.specs.declared.option.Option.the-variants.{None}
+use Rattle.std.specs.declared.option.Option.the-variants.{Some, None}
 use Rattle.tables.specs.Tables.{tasks-of}
 use Rattle.tables.specs.Hyperperiod.{hyperperiod-of}
-use Rattle.tables.proofs.Counted.{positive}
+use Rattle.tables.proofs.Counted.{positive, tasks-few}
 use Rattle.tables.proofs.Multiples.{hyper-pos}
 use Rattle.schedules.specs.Runs.{State, tick-answer, ticked}
 use Rattle.schedules.specs.Views.{state-of-run}
 use Rattle.schedules.specs.Schedule.{full, full-miss, judged}
+use Rattle.schedules.specs.Live.{LiveStaysWithinFull, SaysOfEveryLiveRun}
+use Rattle.schedules.specs.declared.verdict.Miss.{Miss}
+use Rattle.schedules.specs.declared.verdict.Verdict.the-variants.{Holds, Misses}
+use Rattle.schedules.proofs.Alive.{stays-within, says-of-live}
 use Rattle.schedules.proofs.Endless.{going, never-misses}
 use Rattle.schedules.proofs.Judged.{answer-miss, answer-refused, judged-miss, judged-more, judged-end, miss-next, full-next}
 use Rattle.schedules.proofs.verdict.Verdict.of.Needs as need
@@ -56,9 +60,14 @@ returns-in-Some g c =
     let on = going ts m (t .timed) n (inv .3) .on in
     let miss = answer-miss ts m (full ts m n) _ (c .in-Ok .miss) on
     (c .in-Ok .ensures tt .answer ∙ same-call ahead tick-answer t (run .table .now) (c .args .ordering .now) (run .ordering .now) (full ts m n) (state-of-run run) (inv .0) (inv .1) (inv .2)) ∙ c .in-Some .is in
+    let ex = g .O·Ordering·met .exclusive (c .args .ordering .now) in
+    let tr = g .O·Ordering·met .transitive (c .args .ordering .now) in
+    let first : (full-miss ts m (n + 1) ≡ Some (c .in-Some .task)) × ((k : ℕ) → k < n + 1 → full-miss ts m k ≡ None) = (miss-next ts m n ∙ miss, λ k h. inv .3 k (omega arith)) in
     record {
       value = sym (judged-miss ts m (c .hyperperiod-n-end .result) n (full ts m n) (c .in-Some .task) (c .loop-n-test .taken) miss) ∙ inv .4;
-      says-of-the-endless-schedule = (miss-next ts m n ∙ miss, λ k h. inv .3 k (omega arith));
+      says-of-the-endless-schedule = first;
+      says-of-every-live-run = says-of-live ts m (tasks-few t) (t .timed) ex tr (Misses (record { task = c .in-Some .task; instant = n + 1 })) first;
+      live-runs-stay-within-the-full-schedule-up-to-its-first-miss = stays-within ts m (tasks-few t) (t .timed) ex tr;
     }
 
 pub unreachable-requires : need.unreachable-requires
@@ -106,7 +115,12 @@ returns g c =
     let H = c .hyperperiod-n-end .result in
     let p = hyper-pos (tasks-of t) (positive t) in
     let inv = c .loop-n .inv in
+    let ex = g .O·Ordering·met .exclusive (c .args .ordering .now) in
+    let tr = g .O·Ordering·met .transitive (c .args .ordering .now) in
+    let never = never-misses (tasks-of t) m (t .timed) H (omega (arith, c .hyperperiod-n-end .ensures .value)) (c .hyperperiod-n-end .ensures .least-common-multiple .0) (λ k h. inv .3 k (omega arith)) in
     record {
       value = sym (judged-end (tasks-of t) m H (c .loop-n .n) (full (tasks-of t) m (c .loop-n .n)) (c .loop-n-test .left)) ∙ inv .4;
-      says-of-the-endless-schedule = never-misses (tasks-of t) m (t .timed) H (omega (arith, c .hyperperiod-n-end .ensures .value)) (c .hyperperiod-n-end .ensures .least-common-multiple .0) (λ k h. inv .3 k (omega arith));
+      says-of-the-endless-schedule = never;
+      says-of-every-live-run = says-of-live (tasks-of t) m (tasks-few t) (t .timed) ex tr Holds never;
+      live-runs-stay-within-the-full-schedule-up-to-its-first-miss = stays-within (tasks-of t) m (tasks-few t) (t .timed) ex tr;
     }
