@@ -1,10 +1,10 @@
 -- Live runs beside the full schedule.
 use mathlib.Core.Path.{_≡_, refl, sym, ap, subst, _∙_}
-use mathlib.Core.List.{List, [], _∷_, _++_, map}
-use mathlib.Core.Bool.{Bool, true, false, cond}
+use mathlib.Core.List.{List, [], _∷_, _++_}
+use mathlib.Core.Bool.{Bool, true, false}
 use mathlib.Core.Logic.{inl, inr}
-use Prim.Native.Nat.{ℕ, zero, suc, _+_, _<_, _≤_, _^_}
-use native.Mathlib.Nat.{mod-lt, add-zero, add-suc, zero-add}
+use Prim.Native.Nat.{ℕ, zero, suc, _+_, _<_, _≤_}
+use native.Mathlib.Nat.{mod-lt, add-zero, zero-add}
 use native.Mathlib.Omega.{arith}
 use lib.ListN.{length, getD, replicate}
 use Rattle.std.specs.Iters.{folded}
@@ -12,7 +12,7 @@ use Rattle.std.specs.Options.{Cases}
 use Rattle.std.specs.declared.option.Option.{Option}
 use Rattle.std.specs.declared.option.Option.the-variants.{Some, None}
 use Rattle.std.proofs.shelf.Sums.{folded-push}
-use Rattle.std.proofs.shelf.Tests.{cases-lt, cases-bool, true≢false, false≢true}
+use Rattle.std.proofs.shelf.Tests.{cases-lt, cases-bool, true≢false}
 use Rattle.refusals.specs.declared.kinds.FinishRefusal.{FinishRefusal}
 use Rattle.tables.specs.declared.task.Task.{Task}
 use Rattle.tables.specs.Tasks.{nobody, Each, Timed}
@@ -23,11 +23,11 @@ use Rattle.schedules.specs.declared.slot.Slot.{Slot}
 use Rattle.schedules.specs.declared.verdict.Miss.{Miss}
 use Rattle.schedules.specs.declared.verdict.Verdict.{Verdict}
 use Rattle.schedules.specs.declared.verdict.Verdict.the-variants.{Holds, Misses}
-use Rattle.schedules.specs.Units.{at, older, served, missed, renewed}
-use Rattle.schedules.specs.Runs.{State, fresh, closed, advanced, ticked, tick-miss, finish-fault, slots-finished, finished, unit-end}
-use Rattle.schedules.specs.Schedule.{full, full-miss, NeverMisses, FirstMiss, SaysOfEndless}
-use Rattle.schedules.specs.Live.{Live, miss-after, called, live, Within, LiveStaysWithinFull, SaysOfEveryLiveRun}
-use Rattle.schedules.proofs.Endless.{Going, going}
+use Rattle.schedules.specs.Units.{at, missed}
+use Rattle.schedules.specs.Runs.{State, fresh, closed, ticked, tick-miss, finish-fault, slots-finished, unit-end}
+use Rattle.schedules.specs.Schedule.{full, full-miss, FirstMiss, SaysOfEndless}
+use Rattle.schedules.specs.Live.{Live, miss-after, called, live, LiveStaysWithinFull, SaysOfEveryLiveRun}
+use Rattle.schedules.proofs.Endless.{going}
 use Rattle.schedules.proofs.Picks.{Counted}
 use Rattle.schedules.proofs.Near.{Near, near-unit, near-renewed, near-missed, near-finished}
 

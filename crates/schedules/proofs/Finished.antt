@@ -1,5 +1,5 @@
 -- An early finish on a run's memory is one on the state that it stands for.
-use mathlib.Core.Path.{_≡_, refl, sym, ap, subst, _∙_}
+use mathlib.Core.Path.{_≡_, sym, ap, _∙_}
 use mathlib.Core.Bool.{false}
 use mathlib.Core.List.{List}
 use Prim.Native.Nat.{ℕ, _<_, _≤_}
@@ -12,7 +12,6 @@ use Rattle.std.proofs.shelf.Tests.{le-leb, lt-leb, eq-eqb, ne-eqb}
 use Rattle.refusals.specs.declared.kinds.FinishRefusal.{FinishRefusal}
 use Rattle.refusals.specs.declared.kinds.FinishRefusal.the-variants.{NoSuchTask, NotReady}
 use Rattle.tables.specs.declared.task.Task.{Task}
-use Rattle.schedules.specs.declared.slot.Slot.{Slot}
 use Rattle.schedules.specs.declared.slot.Progress.{Progress}
 use Rattle.schedules.specs.Units.{at}
 use Rattle.schedules.specs.Runs.{State, state-of, finish-fault, finish-by, finish-answer, slots-finished, finished}

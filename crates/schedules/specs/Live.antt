@@ -1,6 +1,6 @@
 -- Live runs: what any list of calls does to a new run, beside the full schedule.
 use mathlib.Core.Path.{_≡_}
-use mathlib.Core.Bool.{Bool, false, cond}
+use mathlib.Core.Bool.{false, cond}
 use mathlib.Core.List.{List}
 use Prim.Native.Nat.{ℕ, suc, _≤_}
 use Rattle.std.specs.Iters.{folded}

@@ -16,8 +16,6 @@ use Rattle.tables.proofs.Multiples.{hyper-pos}
 use Rattle.schedules.specs.Runs.{State, tick-answer, ticked}
 use Rattle.schedules.specs.Views.{state-of-run}
 use Rattle.schedules.specs.Schedule.{full, full-miss, judged}
-use Rattle.schedules.specs.Live.{LiveStaysWithinFull, SaysOfEveryLiveRun}
-use Rattle.schedules.specs.declared.verdict.Miss.{Miss}
 use Rattle.schedules.specs.declared.verdict.Verdict.the-variants.{Holds, Misses}
 use Rattle.schedules.proofs.Alive.{stays-within, says-of-live}
 use Rattle.schedules.proofs.Endless.{going, never-misses}
