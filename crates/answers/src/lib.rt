@@ -1,3 +1,5 @@
+#![tactic(auto)]
+
 pub mod answer;
 mod columns;
 pub mod input;

@@ -1,3 +1,5 @@
+#![tactic(auto)]
+
 // Small tables that show what is often believed of such schedules and is false here. docs/misbeliefs.md tells each of them.
 #[cfg(test)]
 mod tests {

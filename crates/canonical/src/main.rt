@@ -1,3 +1,5 @@
+#![tactic(auto)]
+
 use answers::input::{ROOM, fill};
 use anyhow::anyhow;
 use refusals::kinds::Refusal;

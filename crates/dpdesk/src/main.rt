@@ -1,3 +1,5 @@
+#![tactic(auto)]
+
 use desk::commands::Command;
 use desk::naming::Base;
 use desk::outputs::{background_text, laxity_text, table_text, verdict_text};

@@ -1,3 +1,5 @@
+#![tactic(auto)]
+
 use answers::input::{ROOM, fill};
 use answers::judging::judge;
 use answers::printing::printed;

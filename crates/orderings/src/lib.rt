@@ -1,3 +1,5 @@
+#![tactic(auto)]
+
 pub mod background;
 pub mod background_calls;
 pub mod background_list;

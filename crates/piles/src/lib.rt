@@ -1,3 +1,5 @@
+#![tactic(auto)]
+
 // Orderings and piles of layers, on one table: what each of them has run, the verdict that it gives, and a live run.
 #[cfg(test)]
 mod tests {

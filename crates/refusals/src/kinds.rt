@@ -77,7 +77,7 @@ pub enum FinishRefusal {
 }
 
 /// Why promotion times are not set by laxity.
-#[derive(Clone, Copy, Debug, Eq)]
+#[derive(Clone, Copy, Debug, PartialEq, Eq)]
 pub enum LaxityRefusal {
     /// The task of this number, the lowest of several, has no response time.
     NoResponse(u32),

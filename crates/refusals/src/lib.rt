@@ -1,4 +1,5 @@
+#![tactic(auto)]
+
 pub mod conversions;
-pub mod equality;
 pub mod kinds;
 pub mod numbers;

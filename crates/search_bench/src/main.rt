@@ -1,3 +1,5 @@
+#![tactic(auto)]
+
 use orderings::fixed::Fixed;
 use searches::search::{Round, Search};
 use std::io;

@@ -1,3 +1,5 @@
+#![tactic(auto)]
+
 mod runs;
 
 use crate::runs::{EarlyFinish, Runs, Sides, Standing, agree};

@@ -4,3 +4,4 @@ pub mod Hyperperiod
 pub mod Adding
 pub mod Tables
 pub mod Setting
+pub mod Equality

@@ -1,19 +1,22 @@
-ghost use Rattle.std.specs.Prelude.{◌≡◌, Decides, nat_eq};
-ghost use Rattle.std.specs.Ordering.{on, eq_of_both};
-ghost use Rattle.tables.specs.Tables.{tasks_of};
+ghost use Rattle.std.specs.Prelude.{◌≡◌, Decides};
 ghost use Rattle.std.specs.Cmp.Rules.{comparing};
-ghost use Rattle.std.proofs.Common.{rules, arith};
+ghost use Rattle.std.proofs.Common.{rules};
+ghost use Rattle.tables.specs.Equality.{same_numbers, same_tasks};
+ghost use Rattle.tables.specs.Tables.{tasks_of};
 
 use crate::table::Table;
 use crate::task::Task;
 
 /// Two tasks are equal when all six numbers are.
 impl PartialEq for Task {
-    ghost eq = { eq_of_both (on (λ v. v.c) nat_eq) (eq_of_both (on (λ v. v.d) nat_eq) (eq_of_both (on (λ v. v.t) nat_eq) (eq_of_both (on (λ v. v.p1) nat_eq) (eq_of_both (on (λ v. v.p2) nat_eq) (on (λ v. v.s) nat_eq))))) };
+    ghost eq = { same_numbers };
 
     ghost laws = { Prim.search (comparing, rules) };
 
-    fn eq(&self, other: &Task) -> bool {
+    fn eq(&self, other: &Task) -> bool
+        ensures value { result ≡ same_numbers self.now other.now }
+        ensures decides { Decides result (self.now ≡ other.now) }
+    {
         self.c == other.c
             && self.d == other.d
             && self.t == other.t
@@ -25,11 +28,14 @@ impl PartialEq for Task {
 
 /// Two tables are equal when their lists of tasks are.
 impl PartialEq for Table {
-    ghost equals = { λ x y r. Decides r (tasks_of x ≡ tasks_of y) };
+    ghost eq = { same_tasks };
 
-    ghost laws = { first_of (Prim.search (comparing, rules), Prim.grind (arith, Self.row.coded.inj)) };
+    ghost laws = { Prim.search (comparing, rules) };
 
-    fn eq(&self, other: &Table) -> bool {
+    fn eq(&self, other: &Table) -> bool
+        ensures value { result ≡ same_tasks self.now other.now }
+        ensures decides { Decides result (tasks_of self.now ≡ tasks_of other.now) }
+    {
         self.tasks() == other.tasks()
     }
 }

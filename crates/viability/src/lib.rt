@@ -1,3 +1,5 @@
+#![tactic(auto)]
+
 pub mod candidate;
 pub mod laxity;
 pub mod own_list;

@@ -1,3 +1,5 @@
+#![tactic(auto)]
+
 use answers::input::{ROOM, fill};
 use orderings::deadline::Deadline;
 use orderings::fixed::Fixed;

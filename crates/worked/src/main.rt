@@ -1,3 +1,5 @@
+#![tactic(auto)]
+
 use examples::tables::Examples;
 use orderings::background_list::BackgroundList;
 use orderings::deadline::Deadline;
