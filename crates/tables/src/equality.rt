@@ -1,4 +1,6 @@
 ghost use Rattle.std.specs.Prelude.{◌≡◌, Decides};
+ghost use Rattle.std.specs.Cmp.{on_per};
+ghost use Rattle.std.specs.Cmp.Lexicographic.{lists_per};
 ghost use Rattle.std.specs.Cmp.Rules.{comparing};
 ghost use Rattle.std.proofs.Common.{rules};
 ghost use Rattle.tables.specs.Equality.{same_numbers, same_tasks};
@@ -30,7 +32,7 @@ impl PartialEq for Task {
 impl PartialEq for Table {
     ghost eq = { same_tasks };
 
-    ghost laws = { Prim.search (comparing, rules) };
+    ghost laws = { on_per tasks_of (lists_per (Prim.search (comparing, rules))) };
 
     fn eq(&self, other: &Table) -> bool
         ensures value { result ≡ same_tasks self.now other.now }

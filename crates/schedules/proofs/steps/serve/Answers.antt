@@ -6,8 +6,8 @@ bounds-slots-task g c =
     let r = first_gathered_ready (g.O.Ordering.ahead c.args.ordering.now) c.args.slots.now c.gather-n.new.ready c.gather-n.result c.in-Some.j.now c.in-Some.ensures.value c.gather-n.ensures.jobs in
     ready_within c.args.slots.now c.in-Some.j.now.task r.0
 
-pub overflow-sub-slots : goal.overflow-sub-slots
-overflow-sub-slots g c =
+pub overflow_sub-slots : goal.overflow_sub-slots
+overflow_sub-slots g c =
     (first_gathered_ready (g.O.Ordering.ahead c.args.ordering.now) c.args.slots.now c.gather-n.new.ready c.gather-n.result c.in-Some.j.now c.in-Some.ensures.value c.gather-n.ensures.jobs).0
 
 pub bounds-slots-task-in-Some : goal.bounds-slots-task-in-Some

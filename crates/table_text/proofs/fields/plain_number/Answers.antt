@@ -29,11 +29,11 @@ returns-then-b-lt-ZERO c =
     let t : is_digit (get_or s i 0) ≡ false = grind (arith, nat_tests) in
     sym (at_other c.loop-b.v s i (omega arith) t) ∙ c.loop-b.invariant.0 ∙ sym (few-enough s (omega arith) (omega arith))
 
-pub overflow-mul-v : goal.overflow-mul-v
-overflow-mul-v c = let h = below-million c.loop-b.v c.loop-b.b-index c.loop-b.invariant.1 (omega arith) in omega arith
+pub overflow_mul-v : goal.overflow_mul-v
+overflow_mul-v c = let h = below-million c.loop-b.v c.loop-b.b-index c.loop-b.invariant.1 (omega arith) in omega arith
 
-pub overflow-add-v : goal.overflow-add-v
-overflow-add-v c = let h = below-million c.loop-b.v c.loop-b.b-index c.loop-b.invariant.1 (omega arith) in omega arith
+pub overflow_add-v : goal.overflow_add-v
+overflow_add-v c = let h = below-million c.loop-b.v c.loop-b.b-index c.loop-b.invariant.1 (omega arith) in omega arith
 
 pub loop-b-preserved : goal.loop-b-preserved
 loop-b-preserved c =

@@ -5,8 +5,8 @@ use Rattle.firsts.proofs.Lowests.{lowest_range}
 use Rattle.viability.specs.Viable.{load, response}
 use Rattle.viability.proofs.laxity.lax_time_within.Goals as goal
 
-pub overflow-sub-result : goal.overflow-sub-result
-overflow-sub-result c =
+pub overflow_sub-result : goal.overflow_sub-result
+overflow_sub-result c =
     let ts = c.args.tasks.now in
     let ms = c.mark_urgent.new.members in
     let i = c.args.i in

@@ -6,8 +6,8 @@ use Rattle.orderings.specs.BackgroundList.{numbers_of}
 use Rattle.orderings.specs.Placed.{none_twice_push, takes_new, numbers_count, pushed}
 use Rattle.orderings.proofs.background_list.BackgroundList.take.Goals as goal
 
-pub invariant-of-self : goal.invariant-of-self
-invariant-of-self c =
+pub invariant_of-self : goal.invariant_of-self
+invariant_of-self c =
     let l = c.args.self.now in
     let n = c.args.number in
     let after = c.push.ensures in

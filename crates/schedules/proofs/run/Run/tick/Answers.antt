@@ -4,8 +4,8 @@ use Rattle.tables.proofs.Counted.{tasks_few}
 use Rattle.schedules.proofs.Viewed.{Ticking, tick_answers, tick_after, tick_serves, tick_names, young_after}
 use Rattle.schedules.proofs.run.Run.tick.Goals as goal
 
-pub invariant-of-self-else-is_some : goal.invariant-of-self-else-is_some
-invariant-of-self-else-is_some g c =
+pub invariant_of-self-else-is_some : goal.invariant_of-self-else-is_some
+invariant_of-self-else-is_some g c =
     let s = c.args.self.now in
     let t = s.table.now in
     let f = c.front_unit-ran in

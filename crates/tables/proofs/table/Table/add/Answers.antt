@@ -51,8 +51,8 @@ returns-then-h-longest c =
     let r = refuses (tasks_of t) c.args.task _ (fault_hyperperiod (tasks_of t) c.args.task (omega arith) times ranks (omega arith)) in
     record { answer = r.0; tasks_after = r.1; same_if_refused = refl }
 
-pub invariant-of-self : goal.invariant-of-self
-invariant-of-self c =
+pub invariant_of-self : goal.invariant_of-self
+invariant_of-self c =
     let t = c.args.self.now in
     let x = c.args.task in
     let ts = tasks_of t in
@@ -61,16 +61,13 @@ invariant-of-self c =
     let v : c.least_multiple-h.result ≡ lcm (hyperperiod_of ts) x.t = c.least_multiple-h.ensures ∙ ap (λ h. lcm h x.t) c.hyperperiod.ensures.value in
     let times = timed_from x (sym c.if-not-times_within_bounds.ensures) in
     let ranks = ranked_from x (sym c.if-not-priorities_within_bounds.ensures) in
-    let hp = ap hyperperiod_of more ∙ hyper_push ts x in (
-      length-set t.rows.tasks t.rows.count x ∙ wide,
-      (
-        omega arith,
-        (
-          subst (Each Timed) (sym more) (each_push Timed ts x t.timed times),
-          (subst (Each Ranked) (sym more) (each_push Ranked ts x t.ranked ranks), omega arith),
-        ),
-      ),
-    )
+    let hp = ap hyperperiod_of more ∙ hyper_push ts x in record {
+      wide = length-set t.rows.tasks t.rows.count x ∙ wide;
+      few = omega arith;
+      timed = subst (Each Timed) (sym more) (each_push Timed ts x t.timed times);
+      ranked = subst (Each Ranked) (sym more) (each_push Ranked ts x t.ranked ranks);
+      short = omega arith;
+    }
 
 pub returns : goal.returns
 returns c =

@@ -29,8 +29,8 @@ loop-i-preserved c =
     let wide : length t.rows.tasks ≡ 32 = t.wide in
     c.least_multiple-h.ensures ∙ ap (λ h. lcm h (get_or t.rows.tasks c.loop-i.i nobody).t) c.loop-i.invariant ∙ sym (hyper_more t.rows.tasks c.loop-i.i (omega arith))
 
-pub overflow-cast-result : goal.overflow-cast-result
-overflow-cast-result c =
+pub overflow_cast-result : goal.overflow_cast-result
+overflow_cast-result c =
     let t = c.args.self.now in
     let i : c.loop-i.i ≡ t.rows.count = omega arith in
     let e : c.loop-i.h ≡ hyperperiod_of (tasks_of t) = c.loop-i.invariant ∙ ap (λ k. hyperperiod_of (take k t.rows.tasks)) i in

@@ -26,8 +26,8 @@ returns-then-s-self c =
     let e = fault_bounds (tasks_of t) c.args.i c.args.s (omega arith) (omega arith) in
     record { answer = ap set_by (sym e); tasks_after = ap (tasks_set_by (tasks_of t) c.args.i c.args.s) (sym e); changes_that_promotion_alone = tt; same_if_refused = refl }
 
-pub invariant-of-self : goal.invariant-of-self
-invariant-of-self c =
+pub invariant_of-self : goal.invariant_of-self
+invariant_of-self c =
     let t = c.args.self.now in
     let i = c.args.i in
     let ts = tasks_of t in
@@ -38,19 +38,13 @@ invariant-of-self c =
     let same : take t.rows.count (set t.rows.tasks i x) ≡ set ts i x = take-set-lt t.rows.count t.rows.tasks i x (omega arith) in
     let d = ap (λ (y : Task). y.d) at in
     let times : Timed (get_or t.rows.tasks i nobody) = subst Timed at (t.timed i h) in
-    let ranks : Ranked (get_or t.rows.tasks i nobody) = subst Ranked at (t.ranked i h) in (
-      length-set t.rows.tasks i x ∙ t.wide,
-      (
-        t.few,
-        (
-          subst (Each Timed) (sym same) (each_set Timed ts i x h t.timed times),
-          (
-            subst (Each Ranked) (sym same) (each_set Ranked ts i x h t.ranked (ranks.0, ranks.1, omega arith)),
-            let hp = ap hyperperiod_of same ∙ hyper_set ts i x h (ap (λ (y : Task). y.t) (sym at)) in let short = t.short in omega arith,
-          ),
-        ),
-      ),
-    )
+    let ranks : Ranked (get_or t.rows.tasks i nobody) = subst Ranked at (t.ranked i h) in record {
+      wide = length-set t.rows.tasks i x ∙ t.wide;
+      few = t.few;
+      timed = subst (Each Timed) (sym same) (each_set Timed ts i x h t.timed times);
+      ranked = subst (Each Ranked) (sym same) (each_set Ranked ts i x h t.ranked (ranks.0, ranks.1, omega arith));
+      short = let hp = ap hyperperiod_of same ∙ hyper_set ts i x h (ap (λ (y : Task). y.t) (sym at)) in let short = t.short in omega arith;
+    }
 
 pub returns : goal.returns
 returns c =
