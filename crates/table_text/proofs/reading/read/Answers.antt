@@ -11,19 +11,19 @@ returns-then-text-most c =
     let e = table_too_long c.args.text.now (omega arith) in
     record { answer = sym (ap answer_by e); tasks_after = sym (ap (tasks_by (tasks_of c.args.target.now)) e); written_again_reads_the_same = tt; same_if_refused = refl }
 
-pub returns-in-default : goal.returns-in-default
-returns-in-default c =
+pub returns-in_default : goal.returns-in_default
+returns-in_default c =
     let text = c.args.text.now in
-    let h = c.in-default.ensures in
+    let h = c.in_default.ensures in
     let e = table_after_header text (omega arith) ∙ ap (read_after text) (sym h.value) in
     record { answer = sym (ap answer_by e); tasks_after = sym (ap (tasks_by (tasks_of c.args.target.now)) e); written_again_reads_the_same = tt; same_if_refused = refl }
 
-pub returns-in-err-table : goal.returns-in-err-table
-returns-in-err-table c =
+pub returns-in_err-table : goal.returns-in_err-table
+returns-in_err-table c =
     let text = c.args.text.now in
-    let p = err_from_is_err_and c.from-residual.result c.from-residual.ensures.1 in
+    let p = err_from_is_err_and c.from_residual.result c.from_residual.ensures.1 in
     let start = c.in-Some.ensures in
-    let h = c.in-err-table.ensures in
+    let h = c.in_err-table.ensures in
     let e = table_after_header text (omega arith) ∙ ap (read_after text) (sym start.value) ∙ h in
     record {
       answer = rw (p.1, p.2) (sym (ap answer_by e));
@@ -36,6 +36,6 @@ pub returns : goal.returns
 returns c =
     let text = c.args.text.now in
     let start = c.in-Some.ensures in
-    let h = c.in-ok-table.ensures in
+    let h = c.in_ok-table.ensures in
     let e = table_after_header text (omega arith) ∙ ap (read_after text) (sym start.value) ∙ h in
-    record { answer = sym (ap answer_by e); tasks_after = sym (ap (tasks_by (tasks_of c.args.target.now)) e); written_again_reads_the_same = reads_back c.in-ok-table.table; same_if_refused = tt }
+    record { answer = sym (ap answer_by e); tasks_after = sym (ap (tasks_by (tasks_of c.args.target.now)) e); written_again_reads_the_same = reads_back c.in_ok-table.table; same_if_refused = tt }

@@ -7,13 +7,13 @@ use Rattle.table_text.specs.Reading.{after_record, read_records}
 use Rattle.table_text.proofs.Steps.{read_end, read_step}
 use Rattle.table_text.proofs.reading.read_records.Goals as goal
 
-pub returns-in-err-at : goal.returns-in-err-at
-returns-in-err-at c =
+pub returns-in_err-at : goal.returns-in_err-at
+returns-in_err-at c =
     let text = c.args.text.now in
     let ts = tasks_of c.loop-at.table in
     let few = tasks_few c.loop-at.table in
-    let p = err_from_is_err_and c.from-residual.result c.from-residual.ensures.1 in
-    let h = c.in-err-at.ensures in
+    let p = err_from_is_err_and c.from_residual.result c.from_residual.ensures.1 in
+    let h = c.in_err-at.ensures in
     let s = read_step (33 - length ts) (32 - length ts) text (progress ts c.loop-at.at) (omega arith) (omega arith) in
     rw (p.1, p.2) (sym c.loop-at.invariant.0 ∙ s ∙ ap (λ r. after_record r (read_records (32 - length ts) text)) h.value)
 
@@ -23,7 +23,7 @@ loop-at-preserved c =
     let ts = tasks_of c.loop-at.table in
     let us = tasks_of c.add_record.new.table in
     let few = tasks_few c.add_record.new.table in
-    let h = c.in-ok-at.ensures in
+    let h = c.in_ok-at.ensures in
     let more : length us ≡ length ts + 1 = h.one_more in
     let s = read_step (33 - length ts) (33 - length us) text (progress ts c.loop-at.at) (omega arith) (omega arith) in
     (sym (ap (λ r. after_record r (read_records (33 - length us) text)) h.value) ∙ sym s ∙ c.loop-at.invariant.0, h.bound)

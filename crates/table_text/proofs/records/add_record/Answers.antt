@@ -7,8 +7,8 @@ pub returns-in-Ok : goal.returns-in-Ok
 returns-in-Ok c =
     let ts = tasks_of c.args.table.now in
     let us = tasks_of c.add.new.self in
-    let x = c.in-ok-x.x in
-    let read = c.in-ok-x.ensures in
+    let x = c.in_ok-x.x in
+    let read = c.in_ok-x.ensures in
     let added = c.in-Ok.ensures in
     record {
       value = next_added c.args.text.now c.args.at (c.len.result + 2) ts us x c.in-Ok.field-0 (ap (λ n. n + 2) c.len.ensures) read.value added.answer added.tasks_after;

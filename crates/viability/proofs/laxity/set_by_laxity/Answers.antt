@@ -14,7 +14,7 @@ loop-i-preserved c =
     let inv = c.loop-i.invariant in
     let same = c.tasks.ensures in
     let in_table : i < length ts = (let t = c.loop-i-test.true in let l = c.len-i-end.ensures in omega arith) in
-    let found = c.in-ok-lax_times.ensures.found in
+    let found = c.in_ok-lax_times.ensures.found in
     let time : lax_time ts i ≡ Some s = subst (λ l. lax_time l i ≡ Some s) same (found i (subst (λ l. i < length l) (sym same) in_table)) in
     let after = c.set_promotion.ensures.tasks_after in (
       ap length after ∙ set_long ts us i s inv.0 in_table inv.1 inv.2 time,
@@ -25,7 +25,7 @@ loop-i-preserved c =
 pub returns : goal.returns
 returns c =
     let ts = tasks_of c.args.table.now in
-    let ok = c.in-ok-lax_times.ensures.answer ∙ ap laxity_answer c.tasks.ensures in
+    let ok = c.in_ok-lax_times.ensures.answer ∙ ap laxity_answer c.tasks.ensures in
     record {
       answer = ok;
       tasks_after = all_set ts (tasks_of c.loop-i.table) c.loop-i.invariant.0 (λ k h. c.loop-i.invariant.1 k (let l = c.len-i-end.ensures in let t = c.loop-i-test.false in omega arith)) ok;

@@ -14,7 +14,7 @@ invariant_of-self c =
     let wide = ap length after.numbers ∙ length-set l.places.numbers l.places.count n ∙ l.wide in
     let more = pushed l c.push.new.self n (omega arith) after.numbers after.count in
     let new : is_some (place_in (numbers_of l) n) ≡ false = sym (ap is_some c.place.ensures) ∙ sym c.if-is_some.ensures in
-    (wide, (omega arith, (subst NoneTwice (sym more) (none_twice_push (numbers_of l) n l.distinct new), tt)))
+    record { wide = wide; few = omega arith; distinct = subst NoneTwice (sym more) (none_twice_push (numbers_of l) n l.distinct new) }
 
 pub returns : goal.returns
 returns c =
