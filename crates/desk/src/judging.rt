@@ -31,8 +31,8 @@ fn lowest_of(named: Named) -> Base
 
 // The verdict under the layer of a named ordering, over a lower ordering.
 fn verdict_over<O: Ordering + Drop>(table: &Table, named: Named, lower: O) -> Verdict
-    ensures value { result ≡ verdict_of (tasks_of table.now) (layered (tasks_of table.now) named (ahead lower)) }
-    ensures says_of_the_endless_schedule { SaysOfEndless (tasks_of table.now) (layered (tasks_of table.now) named (ahead lower)) result }
+    ensures value { result ≡ verdict_of (tasks_of table.now) (layered (tasks_of table.now) named (O.ahead lower)) }
+    ensures says_of_the_endless_schedule { SaysOfEndless (tasks_of table.now) (layered (tasks_of table.now) named (O.ahead lower)) result }
 {
     match named {
         Named::Plain(_) => Verdict::of(table, &lower),

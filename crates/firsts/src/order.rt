@@ -14,8 +14,8 @@ pub trait Order<T> {
 /// The first item of a list under an order, or none of an empty list.
 /// Where the items are distinct and the order is total and transitive on them, it precedes all others.
 pub fn first<'a, T, R: Order<T>>(items: &'a [T], order: &R) -> Option<&'a T>
-    ensures value { option_map (λ x. x.now) result ≡ first_in_order (precedes order.now) items.now }
-    ensures precedes_all_others { Distinct items.now → ExclusiveOn (precedes order.now) items.now → TransitiveOn (precedes order.now) items.now → IsFirst (precedes order.now) items.now (option_map (λ x. x.now) result) }
+    ensures value { option_map (λ x. x.now) result ≡ first_in_order (R.precedes order.now) items.now }
+    ensures precedes_all_others { Distinct items.now → ExclusiveOn (R.precedes order.now) items.now → TransitiveOn (R.precedes order.now) items.now → IsFirst (R.precedes order.now) items.now (option_map (λ x. x.now) result) }
 {
     if items.is_empty() {
         return None;

@@ -35,10 +35,10 @@ impl<'t, 'o, O: Ordering> Run<'t, 'o, O> {
     /// One unit: the task that ran, and the task that missed (the lowest number of several).
     /// An ended run is refused, and stays as it is.
     pub fn tick(&mut self) -> Result<(Option<u32>, Option<u32>), TickRefusal>
-        ensures answer { result ≡ tick_answer (tasks_of_run self.old) (ahead (ordering_of_run self.old)) (state_of_run self.old) }
-        ensures after { state_of_run self.new ≡ ticked (tasks_of_run self.old) (ahead (ordering_of_run self.old)) (state_of_run self.old) }
-        ensures serves_the_job_ahead_of_all_ready { IfOk result (λ x. AheadOfAllReady (ahead (ordering_of_run self.old)) (state_of_run self.old).slots x.0) }
-        ensures names_the_lowest_late_task { IfOk result (λ x. LowestLate (tasks_of_run self.old) (unit_end (ahead (ordering_of_run self.old)) (state_of_run self.old).slots) x.1) }
+        ensures answer { result ≡ tick_answer (tasks_of_run self.old) (O.ahead (ordering_of_run self.old)) (state_of_run self.old) }
+        ensures after { state_of_run self.new ≡ ticked (tasks_of_run self.old) (O.ahead (ordering_of_run self.old)) (state_of_run self.old) }
+        ensures serves_the_job_ahead_of_all_ready { IfOk result (λ x. AheadOfAllReady (O.ahead (ordering_of_run self.old)) (state_of_run self.old).slots x.0) }
+        ensures names_the_lowest_late_task { IfOk result (λ x. LowestLate (tasks_of_run self.old) (unit_end (O.ahead (ordering_of_run self.old)) (state_of_run self.old).slots) x.1) }
         ensures same_if_refused { OnErr result (self.new ≡ self.old) }
         ensures keeps_table { self.new.table ≡ self.old.table }
         ensures keeps_ordering { self.new.ordering ≡ self.old.ordering }

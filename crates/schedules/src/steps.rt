@@ -33,8 +33,8 @@ fn gather(slots: &[Slot], ready: &mut [Job]) -> usize
 fn serve<O: Ordering>(slots: &mut [Slot], ready: &mut [Job], ordering: &O) -> Option<u32>
     requires few { length slots.old ≤ 32 }
     requires room { length slots.old ≤ length ready.old }
-    ensures ran { result ≡ option_map (λ j. j.task) (picked (ahead ordering.now) slots.old) }
-    ensures after { slots.new ≡ served (ahead ordering.now) slots.old }
+    ensures ran { result ≡ option_map (λ j. j.task) (picked (O.ahead ordering.now) slots.old) }
+    ensures after { slots.new ≡ served (O.ahead ordering.now) slots.old }
 {
     let n = gather(slots, ready);
     match first(&ready[0..n], ordering) {
@@ -123,9 +123,9 @@ fn unit<O: Ordering>(
     requires room { length slots.old ≤ length ready.old }
     requires long { length slots.old ≤ length tasks.now }
     requires young { (k : ℕ) → k < length slots.old → (at slots.old k).age + 1 < 2 ^ 32 }
-    ensures ran { result.0 ≡ option_map (λ j. j.task) (picked (ahead ordering.now) slots.old) }
-    ensures miss { result.1 ≡ missed tasks.now (map older (served (ahead ordering.now) slots.old)) }
-    ensures after { slots.new ≡ (advanced tasks.now (served (ahead ordering.now) slots.old)).slots }
+    ensures ran { result.0 ≡ option_map (λ j. j.task) (picked (O.ahead ordering.now) slots.old) }
+    ensures miss { result.1 ≡ missed tasks.now (map older (served (O.ahead ordering.now) slots.old)) }
+    ensures after { slots.new ≡ (advanced tasks.now (served (O.ahead ordering.now) slots.old)).slots }
 {
     let ran = serve(slots, ready, ordering);
     let miss = advance(tasks, slots);
@@ -143,9 +143,9 @@ pub(crate) fn front_unit<O: Ordering>(
     requires room { length tasks.now ≤ length ready.old }
     requires long { length tasks.now ≤ length slots.old }
     requires young { (k : ℕ) → k < length tasks.now → (at slots.old k).age + 1 < 2 ^ 32 }
-    ensures ran { result.0 ≡ option_map (λ j. j.task) (picked (ahead ordering.now) (take (length tasks.now) slots.old)) }
-    ensures miss { result.1 ≡ missed tasks.now (map older (served (ahead ordering.now) (take (length tasks.now) slots.old))) }
-    ensures after { take (length tasks.now) slots.new ≡ (advanced tasks.now (served (ahead ordering.now) (take (length tasks.now) slots.old))).slots }
+    ensures ran { result.0 ≡ option_map (λ j. j.task) (picked (O.ahead ordering.now) (take (length tasks.now) slots.old)) }
+    ensures miss { result.1 ≡ missed tasks.now (map older (served (O.ahead ordering.now) (take (length tasks.now) slots.old))) }
+    ensures after { take (length tasks.now) slots.new ≡ (advanced tasks.now (served (O.ahead ordering.now) (take (length tasks.now) slots.old))).slots }
 {
     let n = tasks.len();
     unit(tasks, &mut slots[..n], ready, ordering)

@@ -27,11 +27,11 @@ pub enum Verdict {
 impl Verdict {
     /// The verdict on a table under an ordering, from at most one hyperperiod of the full schedule.
     pub fn of<O: Ordering>(table: &Table, ordering: &O) -> Verdict
-        ensures value { result ≡ verdict_of (tasks_of table.now) (ahead ordering.now) }
-        ensures says_of_the_endless_schedule { SaysOfEndless (tasks_of table.now) (ahead ordering.now) result }
-        ensures says_of_every_live_run { SaysOfEveryLiveRun (tasks_of table.now) (ahead ordering.now) result }
-        ensures holds_under_the_background_layer_with_its_own_list_too { HoldsInBackgroundToo (tasks_of table.now) (ahead ordering.now) result }
-        ensures live_runs_stay_within_the_full_schedule_up_to_its_first_miss { LiveStaysWithinFull (tasks_of table.now) (ahead ordering.now) }
+        ensures value { result ≡ verdict_of (tasks_of table.now) (O.ahead ordering.now) }
+        ensures says_of_the_endless_schedule { SaysOfEndless (tasks_of table.now) (O.ahead ordering.now) result }
+        ensures says_of_every_live_run { SaysOfEveryLiveRun (tasks_of table.now) (O.ahead ordering.now) result }
+        ensures holds_under_the_background_layer_with_its_own_list_too { HoldsInBackgroundToo (tasks_of table.now) (O.ahead ordering.now) result }
+        ensures live_runs_stay_within_the_full_schedule_up_to_its_first_miss { LiveStaysWithinFull (tasks_of table.now) (O.ahead ordering.now) }
     {
         let mut run = Run::new(table, ordering);
         for n in 0..table.hyperperiod() {

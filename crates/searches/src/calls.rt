@@ -29,11 +29,11 @@ impl<O: Ordering> Search<O> {
     pub fn new(table: &Table, lower: O) -> Search<O>
         ensures begins { trial_of result ≡ begun (tasks_of table.now) }
         ensures keeps_lower { ordering_below result ≡ lower }
-        ensures promotions_never_rise { PromotionsNeverRise (tasks_of table.now) (ahead lower) }
-        ensures only_promotions_change_and_stay_within_deadlines { OnlyPromotionsChange (tasks_of table.now) (ahead lower) }
-        ensures held_is_holding { HeldIsHolding (tasks_of table.now) (ahead lower) }
-        ensures stuck_is_missing_at_zero { StuckIsMissingAtZero (tasks_of table.now) (ahead lower) }
-        ensures ends_within_the_sum_of_deadlines { EndsWithinTheSumOfDeadlines (tasks_of table.now) (ahead lower) }
+        ensures promotions_never_rise { PromotionsNeverRise (tasks_of table.now) (O.ahead lower) }
+        ensures only_promotions_change_and_stay_within_deadlines { OnlyPromotionsChange (tasks_of table.now) (O.ahead lower) }
+        ensures held_is_holding { HeldIsHolding (tasks_of table.now) (O.ahead lower) }
+        ensures stuck_is_missing_at_zero { StuckIsMissingAtZero (tasks_of table.now) (O.ahead lower) }
+        ensures ends_within_the_sum_of_deadlines { EndsWithinTheSumOfDeadlines (tasks_of table.now) (O.ahead lower) }
     {
         Search {
             layer: PromotionLayer::new(&at_deadlines(table), lower),
@@ -69,8 +69,8 @@ impl<O: Ordering> Search<O> {
     /// its number; where none misses the search is held, and where that promotion time is 0 it is stuck. A search that is
     /// held or stuck stays as it is, and answers the same again.
     pub fn round(&mut self) -> Round
-        ensures answer { result ≡ round_answer (ahead (ordering_below self.old)) (trial_of self.old) }
-        ensures after { trial_of self.new ≡ round_after (ahead (ordering_below self.old)) (trial_of self.old) }
+        ensures answer { result ≡ round_answer (O.ahead (ordering_below self.old)) (trial_of self.old) }
+        ensures after { trial_of self.new ≡ round_after (O.ahead (ordering_below self.old)) (trial_of self.old) }
         ensures keeps_lower { ordering_below self.new ≡ ordering_below self.old }
     {
         match (self.stage, self.verdict()) {
@@ -86,7 +86,7 @@ impl<O: Ordering> Search<O> {
 
     // The verdict with the promotion times of the search; where the stage tells it, nothing is run.
     fn verdict(&self) -> Verdict
-        ensures { result ≡ verdict_from (ahead (ordering_below self.now)) (trial_of self.now).tasks (trial_of self.now).stage }
+        ensures { result ≡ verdict_from (O.ahead (ordering_below self.now)) (trial_of self.now).tasks (trial_of self.now).stage }
     {
         match self.stage {
             Stage::Open => Verdict::of(self.layer.table(), &self.layer),

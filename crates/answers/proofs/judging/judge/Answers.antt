@@ -17,5 +17,5 @@ returns-in-Ok c =
       value = c.answer_by.ensures ∙ answer_is text t o h.result v.result reads c.new-ordering.ensures h.ensures.value v.ensures.value;
       true_of_the_endless_schedule =
           subst (TrueOf text) (sym c.answer_by.ensures)
-          (true_by text (tasks_of t) h.result v.result reads (says_own t o v.result c.new-ordering.ensures v.ensures.says-of-the-endless-schedule) h.ensures.least-common-multiple);
+          (true_by text (tasks_of t) h.result v.result reads (says_own t o v.result c.new-ordering.ensures v.ensures.says_of_the_endless_schedule) h.ensures.least_common_multiple);
     }

@@ -18,5 +18,5 @@ returns-in-Ok c =
       value = c.answer_by.ensures ∙ answer_is n text ts h.result reads v.result h.ensures.value v.ensures.value;
       true_of_the_endless_schedule =
           subst (TrueUnder n text) (sym c.answer_by.ensures)
-          (true_by n text ts h.result reads v.result v.ensures.says_of_the_endless_schedule h.ensures.least-common-multiple);
+          (true_by n text ts h.result reads v.result v.ensures.says_of_the_endless_schedule h.ensures.least_common_multiple);
     }

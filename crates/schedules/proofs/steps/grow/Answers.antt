@@ -23,8 +23,8 @@ loop-k-preserved c =
       grown_rest xs ys k within inv.0 inv.1,
       none_due_more (λ i. eqb ((at xs i).age + 1) (get_or ts i nobody).t) c.loop-k.due _ k inv.2 (ap (λ x. eqb x.age (get_or ts k nobody).t) (grown_here xs ys k within inv.0 inv.1)),
       elim c.if-is_late.branch [
-        | then-is_late+then-is_none w ↦ w.miss_is ∙ miss_found p k c.loop-k.miss (w.is_none.ensures ∙ ap not w.if-is_none.true) inv.3 (sym here ∙ w.if-is_late.true)
-        | else-is_late w ↦ w.miss_is ∙ (elim w.else-is_late.branch [
+        | then-is_late+then-is_none w ↦ w.miss-is ∙ miss_found p k c.loop-k.miss (w.is_none.ensures ∙ ap not w.if-is_none.true) inv.3 (sym here ∙ w.if-is_late.true)
+        | else-is_late w ↦ w.miss-is ∙ (elim w.else-is_late.branch [
           | else-is_late-via-then-is_late+else-is_none w' ↦ miss_kept p k c.loop-k.miss (w'.is_none.ensures ∙ ap not w'.if-is_none.false) inv.3
           | else-is_late-via-else-is_late w' ↦ miss_passed p k c.loop-k.miss inv.3 (sym here ∙ w'.if-is_late.false)
         ])

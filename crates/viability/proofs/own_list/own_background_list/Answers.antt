@@ -23,8 +23,8 @@ loop-init c =
     let ts = tasks_of t in
     (refl, subst (λ ms. Taking ts ms (numbers_of c.new-list.result) 0) (sym (front_everyone ts 32 (tasks_few t))) (subst (λ xs. Taking ts (everyone ts) xs 0) (sym c.new-list.ensures) (taking_none ts)))
 
-pub slice-bounds-next-end : goal.slice-bounds-next-end
-slice-bounds-next-end c =
+pub slice_bounds-next-end : goal.slice_bounds-next-end
+slice_bounds-next-end c =
     let few = tasks_few c.args.table.now in
     let same = ap length c.tasks-tasks.ensures in
     let room : length c.tasks-tasks.result.now ≤ 32 = omega arith in

@@ -21,7 +21,7 @@ invariant_of-self-else-is_some g c =
       is_miss = e.miss;
       after = e.after;
     } in
-    (f.auto.slots ∙ s.wide, (f.auto.ready ∙ s.room, (λ _. young_after u c.if-is_some.ensures, tt)))
+    record { wide = f.auto.slots ∙ s.wide; room = f.auto.ready ∙ s.room; young = λ _. young_after u c.if-is_some.ensures }
 
 pub returns-then-is_some : goal.returns-then-is_some
 returns-then-is_some g c =

@@ -111,7 +111,7 @@ returns g c =
     let inv = c.loop-n.invariant in
     let ex = g.met.O.Ordering.exclusive c.args.ordering.now in
     let tr = g.met.O.Ordering.transitive c.args.ordering.now in
-    let never = never_misses (tasks_of t) m t.timed H (omega (arith, c.hyperperiod-n-end.ensures.value)) c.hyperperiod-n-end.ensures.least-common-multiple.0 (λ k h. inv.3 k (omega arith)) in
+    let never = never_misses (tasks_of t) m t.timed H (omega (arith, c.hyperperiod-n-end.ensures.value)) c.hyperperiod-n-end.ensures.least_common_multiple.0 (λ k h. inv.3 k (omega arith)) in
     record {
       value = sym (judged_end (tasks_of t) m H c.loop-n.n (full (tasks_of t) m c.loop-n.n) c.loop-n-test.false) ∙ inv.4;
       says_of_the_endless_schedule = never;

@@ -10,7 +10,7 @@ returns g c =
     let ts = tasks_of c.args.table.now in
     let m = g.O.Ordering.ahead c.args.lower in
     record {
-      begins = ap (λ us. at_stage us Open) (ap tasks_of c.new.ensures.keeps-table ∙ c.at_deadlines.ensures);
+      begins = ap (λ us. at_stage us Open) (ap tasks_of c.new.ensures.keeps_table ∙ c.at_deadlines.ensures);
       keeps_lower = c.new.ensures.keeps_lower;
       promotions_never_rise = never_rise ts m;
       only_promotions_change_and_stay_within_deadlines = only_promotions ts m;
