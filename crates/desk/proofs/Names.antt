@@ -1,20 +1,16 @@
 -- A name among all names.
-use Rattle.std.proofs.Common.{◌≡◌, ℕ, ◌+◌, ◌<◌, ◌≤◌, Bool, true, false, cond, List, length, get_or, drop, Some, None, Decides, sym, ap, ◌∙◌, subst, rules}
+use Rattle.std.proofs.Common.{◌≡◌, ℕ, ◌+◌, ◌<◌, ◌≤◌, Bool, true, false, cond, List, length, get_or, drop, Some, None, sym, ap, ◌∙◌, subst}
 use Rattle.std.specs.Str.{bytes_eq}
-use Rattle.std.proofs.lemmas.Slice.Eq.{bytes_eq-Decides}
 use Rattle.std.proofs.lemmas.List.{at_drop_more, at_drop_all}
 use Rattle.std.proofs.lemmas.Bool.{cond-true, cond-false}
 use Rattle.desk.specs.declared.naming.Named.{Named}
 use Rattle.desk.specs.Words.{all_named, named_in, named_text}
 
-pub tested : (xs ys : List ℕ) (r : Bool) → Decides r (xs ≡ ys) → bytes_eq xs ys ≡ r
-tested xs ys r h = search (rules, bytes_eq-Decides)
-
 -- the word is the name at place i, or it is sought behind it
 module _ (w name : List ℕ) (i : ℕ) (d : Named) (r : Bool) (h : i < 9)
-    (same : Decides r (w ≡ name)) (is : name ≡ named_text (get_or all_named i d)) where
+    (same : r ≡ bytes_eq w name) (is : name ≡ named_text (get_or all_named i d)) where
   found : bytes_eq w (named_text (get_or all_named i d)) ≡ r
-  found = ap (bytes_eq w) (sym is) ∙ tested w name r same
+  found = ap (bytes_eq w) (sym is) ∙ sym same
 
   here_or_behind : named_in (drop i all_named) w ≡ cond r (Some (get_or all_named i d)) (named_in (drop (i + 1) all_named) w)
   here_or_behind =
