@@ -66,17 +66,20 @@ fn rounds_and_refusals(rt: HostRuntime) {
     };
     assert_eq!(rt;
         round_line(1, Round::Lowered(1)).bytes(),
-        b"1,lowered,1,\r\n"
+        b"1,lowered,1,\r\n".as_slice()
     );
-    assert_eq!(rt; round_line(70, Round::Held).bytes(), b"70,held,,\r\n");
+    assert_eq!(rt;
+        round_line(70, Round::Held).bytes(),
+        b"70,held,,\r\n".as_slice()
+    );
     assert_eq!(rt;
         round_line(133, Round::Stuck(miss)).bytes(),
-        b"133,stuck,3,814\r\n"
+        b"133,stuck,3,814\r\n".as_slice()
     );
     let refusal = Refusal::Laxity(LaxityRefusal::NoResponse(1));
     assert_eq!(rt;
         refused_line(&refusal).bytes(),
-        b"answer,task,refusal,record,field\r\nrefused,1,12,,\r\n"
+        b"answer,task,refusal,record,field\r\nrefused,1,12,,\r\n".as_slice()
     );
 }
 
@@ -84,11 +87,11 @@ fn rounds_and_refusals(rt: HostRuntime) {
 fn texts_of_a_full_table(rt: HostRuntime) {
     assert_eq!(rt;
         verdict_text(FULL, Named::Plain(Base::TwoPhase)).bytes(),
-        b"ordering,answer,task,instant,hyperperiod,refusal,record,field\r\ntwo-phase,holds,,,12,,,\r\n"
+        b"ordering,answer,task,instant,hyperperiod,refusal,record,field\r\ntwo-phase,holds,,,12,,,\r\n".as_slice()
     );
-    assert_eq!(rt; background_text(FULL).bytes(), b"task\r\n");
+    assert_eq!(rt; background_text(FULL).bytes(), b"task\r\n".as_slice());
     assert_eq!(rt;
         laxity_text(FULL).bytes(),
-        b"answer,task,refusal,record,field\r\nrefused,1,12,,\r\n"
+        b"answer,task,refusal,record,field\r\nrefused,1,12,,\r\n".as_slice()
     );
 }

@@ -1,5 +1,6 @@
 #![tactic(auto)]
 
+use anyhow::anyhow;
 use desk::commands::Command;
 use desk::naming::Base;
 use desk::outputs::{background_text, laxity_text, table_text, verdict_text};
@@ -22,7 +23,7 @@ fn asked(rt: &HostRuntime) -> anyhow::Result<Command> {
     let words: Vec<String> = env::args(rt)?.skip(1).collect(rt.alloc())?;
     match command_of(&words) {
         Ok(command) => Ok(command),
-        Err(expected) => Err(told(expected).into()),
+        Err(expected) => Err(anyhow!("{}", told(expected))),
     }
 }
 

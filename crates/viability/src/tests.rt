@@ -35,14 +35,14 @@ fn list_of(tasks: &[Task]) -> Result<BackgroundList, Fail> {
 #[test]
 fn no_task_is_viable(rt: HostRuntime) -> Result<(), Fail> {
     let list = list_of(&[task(2, 4, 4), task(3, 6, 6)])?;
-    assert_eq!(rt; list.numbers(), &[]);
+    assert_eq!(rt; list.numbers(), [0u32; 0].as_slice());
     Ok(())
 }
 
 #[test]
 fn one_task_is_viable(rt: HostRuntime) -> Result<(), Fail> {
     let list = list_of(&[task(2, 5, 5), task(4, 7, 7), task(1, 35, 35)])?;
-    assert_eq!(rt; list.numbers(), &[2]);
+    assert_eq!(rt; list.numbers(), [2].as_slice());
     Ok(())
 }
 
@@ -50,7 +50,7 @@ fn one_task_is_viable(rt: HostRuntime) -> Result<(), Fail> {
 #[test]
 fn all_tasks_are_viable(rt: HostRuntime) -> Result<(), Fail> {
     let list = list_of(&[task(1, 4, 4), task(2, 6, 6), task(1, 12, 12)])?;
-    assert_eq!(rt; list.numbers(), &[2, 1, 0]);
+    assert_eq!(rt; list.numbers(), [2, 1, 0].as_slice());
     Ok(())
 }
 
@@ -58,7 +58,7 @@ fn all_tasks_are_viable(rt: HostRuntime) -> Result<(), Fail> {
 #[test]
 fn equal_deadlines(rt: HostRuntime) -> Result<(), Fail> {
     let list = list_of(&[task(1, 8, 8), task(1, 4, 4), task(1, 8, 8)])?;
-    assert_eq!(rt; list.numbers(), &[2, 0, 1]);
+    assert_eq!(rt; list.numbers(), [2, 0, 1].as_slice());
     Ok(())
 }
 
@@ -86,7 +86,7 @@ fn promotion_times_by_laxity(rt: HostRuntime) -> Result<(), Fail> {
     assert_eq!(rt; set_by_laxity(&mut table).is_ok(), true);
     assert_eq!(rt;
         table.tasks(),
-        &[
+        [
             Task {
                 s: 3,
                 ..promoted(1, 4, 0)
@@ -100,6 +100,7 @@ fn promotion_times_by_laxity(rt: HostRuntime) -> Result<(), Fail> {
                 ..promoted(1, 12, 2)
             },
         ]
+        .as_slice()
     );
     Ok(())
 }
@@ -113,6 +114,6 @@ fn no_laxity(rt: HostRuntime) -> Result<(), Fail> {
         set_by_laxity(&mut table),
         Err(LaxityRefusal::NoResponse(1))
     );
-    assert_eq!(rt; table.tasks(), &tasks);
+    assert_eq!(rt; table.tasks(), tasks.as_slice());
     Ok(())
 }
