@@ -1,5 +1,5 @@
 -- How long the printed words are.
-use Rattle.std.proofs.Common.{ℕ, ◌≤◌, length, lit≤}
+use Rattle.std.proofs.Common.{◌≤◌, length, lit≤}
 use Rattle.desk.specs.declared.naming.Base.TheVariants.{Fixed, Deadline, TwoPhase}
 use Rattle.desk.specs.declared.naming.Named.{Named}
 use Rattle.desk.specs.declared.naming.Named.TheVariants.{Plain, Promotion, Background}

@@ -1,5 +1,5 @@
 -- Lists of equal items.
-use Rattle.std.proofs.Common.{◌≡◌, List, [], ◌∷◌, ap, ◌∙◌}
+use Rattle.std.proofs.Common.{◌≡◌, [], ◌∷◌, ap, ◌∙◌}
 
 pub two : {X : Type 0} (x y a b : X) → x ≡ a → y ≡ b → x ∷ y ∷ [] ≡ a ∷ b ∷ []
 two x y a b e f = ap (λ u. u ∷ y ∷ []) e ∙ ap (λ u. a ∷ u ∷ []) f

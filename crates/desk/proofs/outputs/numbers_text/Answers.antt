@@ -1,7 +1,7 @@
-use Rattle.std.proofs.Common.{◌≡◌, ℕ, ◌+◌, ◌*◌, ◌<◌, ◌≤◌, List, [], ◌∷◌, ◌++◌, length, get_or, take, sym, refl, ap, ◌∙◌, arith}
+use Rattle.std.proofs.Common.{◌≡◌, ℕ, ◌+◌, ◌<◌, ◌≤◌, List, [], ◌++◌, length, get_or, take, sym, refl, ap, ◌∙◌, arith}
 use Rattle.std.specs.List.{flat_map}
 use Rattle.std.proofs.lemmas.List.{flat_map_more, length-append, take_more, take_all}
-use Rattle.pages.specs.Pages.{bytes_of, pushed}
+use Rattle.pages.specs.Pages.{pushed}
 use Rattle.pages.proofs.Pushed.{pushed_all}
 use Rattle.desk.specs.Printed.{numbers_header, number_record, numbers_text}
 use Rattle.desk.proofs.outputs.numbers_text.Goals as goal

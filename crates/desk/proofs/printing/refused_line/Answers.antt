@@ -1,10 +1,10 @@
-use Rattle.std.proofs.Common.{[], ◌∷◌, ◌++◌, Some, codes, ap, ◌∙◌, arith}
+use Rattle.std.proofs.Common.{[], ◌++◌, Some, codes, ap, ◌∙◌, arith}
 use Rattle.std.proofs.lemmas.List.{length-append}
 use Rattle.refusals.specs.Numbers.{number_of, task_of}
 use Rattle.lines.specs.Lines.{bytes_of, pushed}
 use Rattle.lines.proofs.Pushed.{pushed_next, pushed_all}
 use Rattle.answers.specs.Texts.{line_end, column}
-use Rattle.desk.specs.Printed.{row_of, field_of, refused_header, refused_record, refused_text}
+use Rattle.desk.specs.Printed.{row_of, refused_header, refused_record, refused_text}
 use Rattle.desk.proofs.printing.refused_line.Goals as goal
 
 pub returns : goal.returns

@@ -1,4 +1,4 @@
-use Rattle.std.proofs.Common.{◌≡◌, sym, ap, ◌∙◌, arith}
+use Rattle.std.proofs.Common.{arith}
 use Rattle.viability.proofs.Laxities.{lacks_here, has_here, has_more}
 use Rattle.viability.proofs.laxity.lax_times.Goals as goal
 
