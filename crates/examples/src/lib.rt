@@ -1,3 +1,3 @@
 #![tactic(auto)]
 
-pub mod tables;
+pub mod small_tables;

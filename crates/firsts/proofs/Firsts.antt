@@ -1,12 +1,12 @@
 -- What the scan of `first_in_order` finds precedes all others.
 use Rattle.std.proofs.Common.{◌≡◌, ℕ, ◌+◌, ◌<◌, Bool, true, false, cond, not, ◌≢◌, List, [], ◌∷◌, length, get_or, take, Some, None, fold, sym, refl, ap, ◌∙◌, subst, inl, inr, arith}
-use Rattle.std.specs.List.{AllByRecursion as All}
+use Rattle.std.specs.List.{AllByRecursion}
 use Rattle.std.proofs.lemmas.List.{get_or_default}
 use Rattle.std.proofs.lemmas.Bool.{cond-true, cond-false}
 use Rattle.std.proofs.lemmas.List.Sums.{fold_more}
 use Rattle.firsts.specs.First.{better, first_in_order, In, Distinct, ExclusiveOn, TransitiveOn, IsFirst}
 
-pub all_in : {X : Type 0} (P : X → Type 0) (xs : List X) (y : X) → All P xs → In y xs → P y
+pub all_in : {X : Type 0} (P : X → Type 0) (xs : List X) (y : X) → AllByRecursion P xs → In y xs → P y
 all_in P [] y all here = absurd here
 all_in P (x ∷ xs) y all (inl e) = subst P (sym e) all.0
 all_in P (x ∷ xs) y all (inr more) = all_in P xs y all.1 more
@@ -18,13 +18,13 @@ module _ {X : Type 0} (lt : X → X → Bool) (all : List X) (ex : ExclusiveOn l
     pub is : fold (better lt) (Some b) xs ≡ Some best
     pub here : In best (b ∷ xs)
     pub over : b ≢ best → lt best b ≡ true
-    pub rest : All (λ z. z ≢ best → lt best z ≡ true) xs
+    pub rest : AllByRecursion (λ z. z ≢ best → lt best z ≡ true) xs
 
   -- the items of the part are items of the whole
   abbrev Part : List X → Type 0
   Part xs = (y : X) → In y xs → In y all
 
-  takes : (b x : X) (xs : List X) → Part (b ∷ (x ∷ xs)) → All (λ y. b ≢ y) (x ∷ xs) → All (λ y. x ≢ y) xs → lt x b ≡ true → Best x xs → Best b (x ∷ xs)
+  takes : (b x : X) (xs : List X) → Part (b ∷ (x ∷ xs)) → AllByRecursion (λ y. b ≢ y) (x ∷ xs) → AllByRecursion (λ y. x ≢ y) xs → lt x b ≡ true → Best x xs → Best b (x ∷ xs)
   takes b x xs part far-b far-x e r = record {
     best = r.best;
     is = rw e r.is;
@@ -37,7 +37,7 @@ module _ {X : Type 0} (lt : X → X → Bool) (all : List X) (ex : ExclusiveOn l
     rest = (r.over, r.rest);
   }
 
-  keeps : (b x : X) (xs : List X) → Part (b ∷ (x ∷ xs)) → All (λ y. b ≢ y) (x ∷ xs) → lt x b ≡ false → Best b xs → Best b (x ∷ xs)
+  keeps : (b x : X) (xs : List X) → Part (b ∷ (x ∷ xs)) → AllByRecursion (λ y. b ≢ y) (x ∷ xs) → lt x b ≡ false → Best b xs → Best b (x ∷ xs)
   keeps b x xs part far-b e r =
       let beaten : lt b x ≡ true = ex x b (part x (inr (inl refl))) (part b (inl refl)) (λ q. far-b.0 (sym q)) ∙ ap not e in
       record {
@@ -55,7 +55,7 @@ module _ {X : Type 0} (lt : X → X → Bool) (all : List X) (ex : ExclusiveOn l
         );
       }
 
-  finds : (b : X) (xs : List X) → Part (b ∷ xs) → All (λ y. b ≢ y) xs → Distinct xs → Best b xs
+  finds : (b : X) (xs : List X) → Part (b ∷ xs) → AllByRecursion (λ y. b ≢ y) xs → Distinct xs → Best b xs
   finds b [] part far apart = record { best = b; is = refl; here = inl refl; over = λ ne. absurd (ne refl); rest = tt }
   finds b (x ∷ xs) part far apart =
       let P : Bool → Type 0 = λ v. lt x b ≡ v → Best b (x ∷ xs) in

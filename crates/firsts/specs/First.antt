@@ -1,6 +1,6 @@
 -- The first item of a list under an order.
 use Rattle.std.specs.Prelude.{◌≡◌, Bool, true, cond, not, ◌≢◌, ◌⊎◌, List, [], ◌∷◌, Some, None, fold, Option, MatchOption}
-use Rattle.std.specs.List.{AllByRecursion as All}
+use Rattle.std.specs.List.{AllByRecursion}
 
 -- the better of what was found so far and one item more
 abbrev pub better : {X : Type 0} → (X → X → Bool) → Option X → X → Option X
@@ -18,7 +18,7 @@ In y (x ∷ xs) = (y ≡ x) ⊎ In y xs
 -- no item stands twice
 abbrev pub Distinct : {X : Type 0} → List X → Type 0
 Distinct [] = Unit {0}
-Distinct (x ∷ xs) = All (λ y. x ≢ y) xs × Distinct xs
+Distinct (x ∷ xs) = AllByRecursion (λ y. x ≢ y) xs × Distinct xs
 
 -- of two different items of the list exactly one precedes the other
 abbrev pub ExclusiveOn : {X : Type 0} → (X → X → Bool) → List X → Type 0
@@ -30,7 +30,7 @@ TransitiveOn {X} lt xs = (x y z : X) → In x xs → In y xs → In z xs → x �
 
 -- x is in the list and precedes every other item
 abbrev pub Leads : {X : Type 0} → (X → X → Bool) → List X → X → Type 0
-Leads lt xs x = In x xs × All (λ y. y ≢ x → lt x y ≡ true) xs
+Leads lt xs x = In x xs × AllByRecursion (λ y. y ≢ x → lt x y ≡ true) xs
 
 -- no item of an empty list, else the one that leads
 abbrev pub IsFirst : {X : Type 0} → (X → X → Bool) → List X → Option X → Type 0

@@ -1,7 +1,7 @@
 -- The job that is picked: it is ready, and under a lawful meaning it is ahead of every other ready job.
 use Rattle.std.proofs.Common.{◌≡◌, ℕ, zero, suc, ◌+◌, ◌-◌, ◌<◌, ◌≤◌, Bool, true, false, cond, ltb, ◌≢◌, List, [], ◌∷◌, length, take, Some, None, Option, sym, refl, ap, ◌∙◌, subst, inl, inr, add-zero, zero-add, arith}
 use Rattle.std.specs.Option.{option_map}
-use Rattle.std.specs.List.{AllByRecursion as All}
+use Rattle.std.specs.List.{AllByRecursion}
 use Rattle.std.proofs.lemmas.Bool.{ltb-true, lt-ltb, cases_lt}
 use Rattle.std.proofs.lemmas.List.{get_or_past}
 use Rattle.orderings.specs.Meaning.{Meaning, InRange, Exclusive, Transitive}
@@ -21,25 +21,25 @@ ready_within ss k r = elim (cases_lt k (length ss)) [
 ]
 
 -- what holds of each ready slot holds of each ready job
-ready_all : (P : Job → Type 0) (i : ℕ) (ss : List Slot) → ((k : ℕ) → Ready ss k → P (job (i + k) (at ss k).age)) → All P (ready_from i ss)
+ready_all : (P : Job → Type 0) (i : ℕ) (ss : List Slot) → ((k : ℕ) → Ready ss k → P (job (i + k) (at ss k).age)) → AllByRecursion P (ready_from i ss)
 ready_all P i [] h = tt
 ready_all P i (s ∷ ss) h =
-    let rest : All P (ready_from (i + 1) ss) = ready_all P (i + 1) ss (λ k r. subst (λ n. P (job n (at ss k).age)) (omega arith) (h (suc k) r)) in
-    let Q : Bool → Type 0 = λ v. ltb 0 s.left ≡ v → All P (cond v (job i s.age ∷ ready_from (i + 1) ss) (ready_from (i + 1) ss)) in
+    let rest : AllByRecursion P (ready_from (i + 1) ss) = ready_all P (i + 1) ss (λ k r. subst (λ n. P (job n (at ss k).age)) (omega arith) (h (suc k) r)) in
+    let Q : Bool → Type 0 = λ v. ltb 0 s.left ≡ v → AllByRecursion P (cond v (job i s.age ∷ ready_from (i + 1) ss) (ready_from (i + 1) ss)) in
     (elim (ltb 0 s.left) as Q [
       | true ↦ λ e. (subst (λ n. P (job n s.age)) (add-zero i) (h 0 (ltb-true 0 s.left e)), rest)
       | false ↦ λ e. rest
     ]) refl
 
 -- and the other way round
-ready_gives : (P : Job → Type 0) (i : ℕ) (ss : List Slot) → All P (ready_from i ss) → (k : ℕ) → Ready ss k → P (job (i + k) (at ss k).age)
+ready_gives : (P : Job → Type 0) (i : ℕ) (ss : List Slot) → AllByRecursion P (ready_from i ss) → (k : ℕ) → Ready ss k → P (job (i + k) (at ss k).age)
 ready_gives P i [] all k r = absurd (let z : 0 < 0 = r in omega arith)
 ready_gives P i (s ∷ ss) all zero r =
-    let all' : All P (job i s.age ∷ ready_from (i + 1) ss) = rw (lt-ltb 0 s.left r) at all in
+    let all' : AllByRecursion P (job i s.age ∷ ready_from (i + 1) ss) = rw (lt-ltb 0 s.left r) at all in
     subst (λ n. P (job n s.age)) (sym (add-zero i)) all'.0
 ready_gives P i (s ∷ ss) all (suc k) r =
-    let Q : Bool → Type 0 = λ v. All P (cond v (job i s.age ∷ ready_from (i + 1) ss) (ready_from (i + 1) ss)) → All P (ready_from (i + 1) ss) in
-    let rest : All P (ready_from (i + 1) ss) = (elim (ltb 0 s.left) as Q [ true ↦ λ a. a.1 | false ↦ λ a. a ]) all in
+    let Q : Bool → Type 0 = λ v. AllByRecursion P (cond v (job i s.age ∷ ready_from (i + 1) ss) (ready_from (i + 1) ss)) → AllByRecursion P (ready_from (i + 1) ss) in
+    let rest : AllByRecursion P (ready_from (i + 1) ss) = (elim (ltb 0 s.left) as Q [ true ↦ λ a. a.1 | false ↦ λ a. a ]) all in
     subst (λ n. P (job n (at ss k).age)) (omega arith) (ready_gives P (i + 1) ss rest k r)
 
 ready_distinct : (i : ℕ) (ss : List Slot) → Distinct (ready_from i ss)

@@ -1,6 +1,6 @@
 -- The loop that takes one task after the other from the set of all tasks.
 use Rattle.std.proofs.Common.{◌≡◌, ℕ, zero, suc, ◌+◌, ◌-◌, ◌<◌, ◌≤◌, Bool, true, false, List, [], ◌∷◌, ◌++◌, length, take, set, replicate, is_some, Some, None, Option, sym, refl, ap, ◌∙◌, inl, inr, arith}
-use Rattle.std.specs.List.{AllByRecursion as All}
+use Rattle.std.specs.List.{AllByRecursion}
 use Rattle.std.proofs.lemmas.Bool.{cases_eq, cond-false, ne_eqb, both_ways}
 use Rattle.std.proofs.lemmas.List.{append-nil, append_assoc, length_push, take-replicate, get_or-set_other}
 use Rattle.std.proofs.ByRecursion.{All-push, All-weaker}
@@ -29,7 +29,7 @@ pub front_everyone : (ts : List Task) (n : ℕ) → length ts ≤ n → take (le
 front_everyone ts n h = take-replicate (length ts) n true h ∙ all_set ts
 
 -- a number stands in no list of numbers that are out of a set that it is in
-not_listed : (members : List Bool) (k : ℕ) (xs : List ℕ) (n : ℕ) → All (λ x. is_in members x ≡ false) xs → is_in members n ≡ true → is_some (place_from k xs n) ≡ false
+not_listed : (members : List Bool) (k : ℕ) (xs : List ℕ) (n : ℕ) → AllByRecursion (λ x. is_in members x ≡ false) xs → is_in members n ≡ true → is_some (place_from k xs n) ≡ false
 not_listed members k [] n out here = refl
 not_listed members k (x ∷ xs) n out here =
     ap is_some (cond-false _ (Some k) (place_from (k + 1) xs n) (ne_eqb x n (λ e. both_ways (is_in members n) (ap (is_in members) (sym e) ∙ out.0) here)))
@@ -42,7 +42,7 @@ none_taken ts members (Some x) = refl
 -- k tasks xs were taken, and what is left of the set gives the rest of the list
 pub record Taking (ts : List Task) (members : List Bool) (xs : List ℕ) (k : ℕ) : Type 0 where
   pub count : length xs ≡ k
-  pub out : All (λ x. is_in members x ≡ false) xs
+  pub out : AllByRecursion (λ x. is_in members x ≡ false) xs
   pub whole : xs ++ taken_from ts members (next_taken ts members) (length ts - k) ≡ own_list ts
 
 pub taking_none : (ts : List Task) → Taking ts (everyone ts) [] 0

@@ -1,6 +1,6 @@
 #![tactic(auto)]
 
-use examples::tables::Examples;
+use examples::small_tables::Examples;
 use orderings::background_list::BackgroundList;
 use orderings::deadline::Deadline;
 use orderings::fixed::Fixed;

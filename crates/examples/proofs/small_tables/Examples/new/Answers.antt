@@ -1,5 +1,5 @@
 use Rattle.examples.proofs.Worked.{rows}
-use Rattle.examples.proofs.tables.Examples.new.Goals as goal
+use Rattle.examples.proofs.small_tables.Examples.new.Goals as goal
 
 pub returns : goal.returns
 returns c =

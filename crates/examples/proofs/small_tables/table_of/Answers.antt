@@ -3,7 +3,7 @@ use Rattle.std.proofs.lemmas.List.{take_all}
 use Rattle.std.proofs.lemmas.List.Sums.{fold_more}
 use Rattle.tables.specs.Tasks.{nobody}
 use Rattle.tables.specs.Adding.{tasks_after_adding}
-use Rattle.examples.proofs.tables.table_of.Goals as goal
+use Rattle.examples.proofs.small_tables.table_of.Goals as goal
 
 pub loop-i-preserved : goal.loop-i-preserved
 loop-i-preserved c =

@@ -1,7 +1,7 @@
 use Rattle.std.proofs.Common.{◌≡◌, [], take, fold}
 use Rattle.tables.specs.Adding.{tasks_after_adding}
 use Rattle.tables.specs.Tables.{tasks_of}
-use Rattle.examples.proofs.tables.table_of.Given as goal
+use Rattle.examples.proofs.small_tables.table_of.Given as goal
 
 abbrev pub invariant-loop-i : goal.invariant-loop-i
 invariant-loop-i l = tasks_of l.table ≡ fold tasks_after_adding [] (take l.i l.tasks)
