@@ -10,7 +10,9 @@ use tables::table::Table;
 
 fn refused(rt: &HostRuntime, refusal: Refusal) -> anyhow::Result<()> {
     let number = refusal.number();
-    Err(anyhow!(format!(in rt.alloc(); "refused with number {number}")?))
+    let text = format!(in rt.alloc(); "refused with number {number}")?;
+    // between quotes, as a text is told on standard error
+    Err(anyhow!("{text:?}"))
 }
 
 // Reads a table text and writes it again: nothing quoted, no leading zeros, every record ended.

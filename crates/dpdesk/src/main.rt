@@ -23,7 +23,8 @@ fn asked(rt: &HostRuntime) -> anyhow::Result<Command> {
     let words: Vec<String> = env::args(rt)?.skip(1).collect(rt.alloc())?;
     match command_of(&words) {
         Ok(command) => Ok(command),
-        Err(expected) => Err(anyhow!("{}", told(expected))),
+        // between quotes, as a text is told on standard error
+        Err(expected) => Err(anyhow!("{:?}", told(expected))),
     }
 }
 
