@@ -1,4 +1,6 @@
-ghost use Rattle.std.specs.Prelude.{◌≤◌, length, IfOk};
+ghost use Rattle.std.specs.Prelude.{◌<◌, ◌≤◌, length, take, IfOk, OnErr};
+ghost use Rattle.std.specs.Io.KnownBytes.{Consumes, IsAtEnd};
+ghost use Rattle.answers.specs.Inputs.{FrontIsTaken};
 
 use std::io;
 use std::io::Read;
@@ -6,9 +8,14 @@ use std::io::Read;
 /// Room for a text that the programs read: one byte more than the longest, so that an overlong one is seen.
 pub const ROOM: usize = 4_097;
 
-/// Reads until the buffer is full or the input ends, and answers how many bytes were read.
-pub fn fill(input: &mut impl Read, buffer: &mut [u8]) -> io::Result<usize>
+/// Reads until the buffer is full or the input ends, and answers how many bytes were read. They stand at the buffer's front.
+/// After an error the bytes that came before it stand there. What is said of bytes is said where the input's are known: those
+/// of a text are, those of a file or of standard input are the system's matter.
+pub fn fill<R: Read>(input: &mut R, buffer: &mut [u8]) -> io::Result<usize>
     ensures within_the_buffer { IfOk result (λ n. n ≤ length buffer.new) }
+    ensures takes_what_comes { IfOk result (λ n. Consumes (R.remaining input.old) (R.remaining input.new) (take n buffer.new)) }
+    ensures short_only_at_the_end { IfOk result (λ n. n < length buffer.new → IsAtEnd (R.remaining input.new)) }
+    ensures loses_nothing_on_error { OnErr result (FrontIsTaken (R.remaining input.old) (R.remaining input.new) buffer.new) }
 {
     let mut len = 0;
     while len < buffer.len() {
