@@ -3,7 +3,6 @@ ghost use Rattle.lines.specs.Lines.{bytes_of, pushed};
 ghost use Rattle.desk.specs.Printed.{verdict_record, row_of, field_of, refused_text, number_record, rounds_header, round_word, round_task, round_instant, round_record};
 
 use crate::naming::Named;
-use crate::words::name_of;
 use answers::answer::Answer;
 use answers::printing::{push_column, push_record};
 use lines::line::Line;
@@ -22,7 +21,7 @@ pub(crate) fn verdict_line(named: Named, answer: &Answer) -> Line
     ensures short { length (verdict_record named answer.now) ≤ 101 }
 {
     let mut line = Line::new();
-    line.push_bytes(name_of(named).as_bytes());
+    line.push_bytes(named.name().as_bytes());
     line.push(b',');
     push_record(&mut line, answer);
     line

@@ -2,7 +2,7 @@ use crate::commands::{Command, Expected};
 use crate::naming::{Base, Named};
 use crate::outputs::{background_text, laxity_text, verdict_text};
 use crate::printing::{refused_line, round_line};
-use crate::words::{command_of, name_of, ordering_of};
+use crate::words::command_of;
 use refusals::kinds::{LaxityRefusal, Refusal};
 use schedules::verdict::Miss;
 use searches::search::Round;
@@ -20,10 +20,14 @@ fn words(heap: Global, texts: &[&str]) -> Result<Vec<String>, AllocError> {
     Ok(words)
 }
 
+fn ordering_of(word: &str) -> Option<Named> {
+    word.parse().ok()
+}
+
 #[test]
 fn a_name_is_read_back(rt: HostRuntime) {
     let named = Named::Background(Base::Deadline);
-    assert_eq!(rt; name_of(named), "background-over-deadline");
+    assert_eq!(rt; named.name(), "background-over-deadline");
     assert_eq!(rt; ordering_of("background-over-deadline"), Some(named));
     assert_eq!(rt;
         ordering_of("two-phase"),

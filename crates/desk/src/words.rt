@@ -1,10 +1,14 @@
-ghost use Rattle.std.specs.Prelude.{◌≡◌, map};
+ghost use Rattle.std.specs.Prelude.{◌≡◌, map, Some};
 ghost use Rattle.std.specs.String.{string_bytes};
-ghost use Rattle.std.specs.Option.{option_map};
-ghost use Rattle.desk.specs.Words.{base_text, promotion_text, background_text, named_text, named_of, base_of, only_word, verdict_command, search_command, lone_command, command_by, expected_text};
+ghost use Rattle.std.specs.Option.{ok_or, option_map};
+ghost use Rattle.desk.specs.declared.commands.Expected.TheVariants.{AnOrdering, ABase};
+ghost use Rattle.desk.specs.Words.{named_text, named_of, base_of, only_word, verdict_command, search_command, lone_command, command_by, expected_text};
 
 use crate::commands::{Command, Expected};
 use crate::naming::{Base, Named};
+use std::error::Error;
+use std::fmt;
+use std::str::FromStr;
 
 // All orderings that have a name.
 const ALL: [Named; 9] = [
@@ -19,66 +23,53 @@ const ALL: [Named; 9] = [
     Named::Background(Base::TwoPhase),
 ];
 
-fn base_name(base: Base) -> &'static str
-    ensures { result.now ≡ base_text base }
-{
-    match base {
-        Base::Fixed => "fixed",
-        Base::Deadline => "deadline",
-        Base::TwoPhase => "two-phase",
-    }
-}
-
-fn promotion_name(base: Base) -> &'static str
-    ensures { result.now ≡ promotion_text base }
-{
-    match base {
-        Base::Fixed => "promotion-over-fixed",
-        Base::Deadline => "promotion-over-deadline",
-        Base::TwoPhase => "promotion-over-two-phase",
-    }
-}
-
-fn background_name(base: Base) -> &'static str
-    ensures { result.now ≡ background_text base }
-{
-    match base {
-        Base::Fixed => "background-over-fixed",
-        Base::Deadline => "background-over-deadline",
-        Base::TwoPhase => "background-over-two-phase",
-    }
-}
-
-/// The name of an ordering.
-pub(crate) fn name_of(named: Named) -> &'static str
-    ensures { result.now ≡ named_text named }
-{
-    match named {
-        Named::Plain(base) => base_name(base),
-        Named::Promotion(base) => promotion_name(base),
-        Named::Background(base) => background_name(base),
-    }
-}
-
-/// The ordering of a name, if there is one.
-pub(crate) fn ordering_of(word: &str) -> Option<Named>
-    ensures { result ≡ named_of word.now }
-{
-    for named in &ALL {
-        if word == name_of(*named) {
-            return Some(*named);
+impl Named {
+    /// The name of the ordering.
+    #[tactic(auto, unfolding(crate::specs::Words::promotion_text, crate::specs::Words::background_text))]
+    pub(crate) fn name(self) -> &'static str
+        ensures { result.now ≡ named_text self }
+    {
+        match self {
+            Named::Plain(Base::Fixed) => "fixed",
+            Named::Plain(Base::Deadline) => "deadline",
+            Named::Plain(Base::TwoPhase) => "two-phase",
+            Named::Promotion(Base::Fixed) => "promotion-over-fixed",
+            Named::Promotion(Base::Deadline) => "promotion-over-deadline",
+            Named::Promotion(Base::TwoPhase) => "promotion-over-two-phase",
+            Named::Background(Base::Fixed) => "background-over-fixed",
+            Named::Background(Base::Deadline) => "background-over-deadline",
+            Named::Background(Base::TwoPhase) => "background-over-two-phase",
         }
     }
-    None
 }
 
-// The ordering of a name, if it is one that stands on no other.
-fn base_ordering_of(word: &str) -> Option<Base>
-    ensures { result ≡ base_of word.now }
-{
-    match ordering_of(word) {
-        Some(Named::Plain(base)) => Some(base),
-        _ => None,
+/// The ordering of a name.
+impl FromStr for Named {
+    type Err = Expected;
+
+    ghost from_str_gives = { λ word r. r ≡ ok_or (named_of word) AnOrdering };
+
+    fn from_str(word: &str) -> Result<Named, Expected> {
+        for named in ALL {
+            if word == named.name() {
+                return Ok(named);
+            }
+        }
+        Err(Expected::AnOrdering)
+    }
+}
+
+/// The ordering of a name, where it stands on no other.
+impl FromStr for Base {
+    type Err = Expected;
+
+    ghost from_str_gives = { λ word r. r ≡ ok_or (base_of word) ABase };
+
+    fn from_str(word: &str) -> Result<Base, Expected> {
+        match word.parse() {
+            Ok(Named::Plain(base)) => Ok(base),
+            _ => Err(Expected::ABase),
+        }
     }
 }
 
@@ -86,11 +77,9 @@ fn base_ordering_of(word: &str) -> Option<Base>
 fn only(words: &[String]) -> Option<&str>
     ensures { option_map (λ x. x.now) result ≡ only_word (map string_bytes words.now) }
 {
-    let (word, rest) = words.split_first()?;
-    if rest.is_empty() {
-        Some(word.as_str())
-    } else {
-        None
+    match words {
+        [word] => Some(word.as_str()),
+        _ => None,
     }
 }
 
@@ -98,24 +87,16 @@ fn only(words: &[String]) -> Option<&str>
 fn verdict_command(words: &[String]) -> Result<Command, Expected>
     ensures { result ≡ verdict_command (map string_bytes words.now) }
 {
-    if let Some(word) = only(words) {
-        if let Some(named) = ordering_of(word) {
-            return Ok(Command::Verdict(named));
-        }
-    }
-    Err(Expected::AnOrdering)
+    let word = only(words).ok_or(Expected::AnOrdering)?;
+    Ok(Command::Verdict(word.parse()?))
 }
 
 // The words behind `search`: one ordering that stands on no other.
 fn search_command(words: &[String]) -> Result<Command, Expected>
     ensures { result ≡ search_command (map string_bytes words.now) }
 {
-    if let Some(word) = only(words) {
-        if let Some(base) = base_ordering_of(word) {
-            return Ok(Command::Search(base));
-        }
-    }
-    Err(Expected::ABase)
+    let word = only(words).ok_or(Expected::ABase)?;
+    Ok(Command::Search(word.parse()?))
 }
 
 // A command that no word stands behind.
@@ -146,17 +127,22 @@ pub fn command_of(words: &[String]) -> Result<Command, Expected>
 }
 
 /// What is expected, in words.
-pub fn told(expected: Expected) -> &'static str
-    ensures { result.now ≡ expected_text expected }
-{
-    match expected {
-        Expected::ACommand => {
-            "expected a command: verdict ORDERING, search ORDERING, laxity or background"
-        }
-        Expected::AnOrdering => {
-            "expected one ordering: fixed, deadline or two-phase, alone or behind promotion-over- or background-over-"
-        }
-        Expected::ABase => "expected one ordering: fixed, deadline or two-phase",
-        Expected::NoMore => "expected no word behind laxity or background",
+impl fmt::Display for Expected {
+    ghost output = { λ expected. Some (expected_text expected) };
+
+    #[tactic(auto, unfolding(crate::specs::Words::expected_text))]
+    fn fmt<W: fmt::Write>(&self, f: &mut fmt::Formatter<W>) -> fmt::Result {
+        f.write_str(match self {
+            Expected::ACommand => {
+                "expected a command: verdict ORDERING, search ORDERING, laxity or background"
+            }
+            Expected::AnOrdering => {
+                "expected one ordering: fixed, deadline or two-phase, alone or behind promotion-over- or background-over-"
+            }
+            Expected::ABase => "expected one ordering: fixed, deadline or two-phase",
+            Expected::NoMore => "expected no word behind laxity or background",
+        })
     }
 }
+
+impl Error for Expected {}

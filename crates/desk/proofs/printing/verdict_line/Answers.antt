@@ -20,7 +20,7 @@ returns c =
     let short : length (name ++ (44 ∷ text)) ≤ 101 = simp length-append (omega (arith, p.ensures.short, name_short c.args.named)) in
     record {
       bytes = pushed_next [] b1 last name (44 ∷ text)
-          (c.push_bytes.ensures ∙ ap (pushed _) (c.as_bytes.ensures.value ∙ c.name_of.ensures) ∙ ap (λ l. pushed l name) c.new-line.ensures)
+          (c.push_bytes.ensures ∙ ap (pushed _) (c.as_bytes.ensures.value ∙ c.name.ensures) ∙ ap (λ l. pushed l name) c.new-line.ensures)
           (pushed_next b1 b2 last (44 ∷ []) text c.push.ensures p.ensures.after)
           ∙ pushed_all [] (name ++ (44 ∷ text)) (omega arith);
       short = short;

@@ -1,6 +1,6 @@
 use Rattle.std.proofs.Common.{◌≡◌, drop}
 use Rattle.desk.specs.Words.{all_named, named_in, named_of}
-use Rattle.desk.proofs.words.ordering_of.Given as goal
+use Rattle.desk.proofs.words.NamedFromStr.from_str.Given as goal
 
 -- the names so far are other words
 abbrev pub invariant-loop-named : goal.invariant-loop-named
