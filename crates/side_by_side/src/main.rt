@@ -6,9 +6,10 @@ use crate::runs::{EarlyFinish, Runs, Sides, Standing, agree};
 use answers::answer::Answer;
 use answers::printing::printed;
 use orderings::two_phase::TwoPhase;
-use schedules::verdict::Verdict;
+use schedules::verdict::{Miss, Verdict};
 use std::io;
 use std::io::{Read, Write};
+use std::ops::ControlFlow;
 use table_text::reading::{ENOUGH, read};
 use tables::table::Table;
 use tables::task::Task;
@@ -16,27 +17,13 @@ use tables::task::Task;
 // So many units are told at the most.
 const TOLD: u32 = 48;
 
-// What the comparison has found so far.
-#[derive(Drop)]
-struct Findings {
-    // how many instants were compared
-    instants: u32,
-    // how often a task did not agree
-    faults: u32,
-}
-
 // The ending of a noun of which there are so many.
 fn plural(n: u32) -> &'static str {
     if n == 1 { "" } else { "s" }
 }
 
 fn tell_task(rt: &HostRuntime, i: usize, x: Task) -> io::Result<()> {
-    let c = x.c;
-    let d = x.d;
-    let t = x.t;
-    let p1 = x.p1;
-    let p2 = x.p2;
-    let s = x.s;
+    let Task { c, d, t, p1, p2, s } = x;
     print!(rt; "Task {i}: period {t}, budget {c}, deadline {d}, priority number {p1}, ")?;
     println!(rt; "and {p2} from age {s} on.")
 }
@@ -45,8 +32,7 @@ fn tell_table(rt: &HostRuntime, table: &Table) -> io::Result<()> {
     for (i, x) in table.tasks().iter().enumerate() {
         tell_task(rt, i, *x)?;
     }
-    let h = table.hyperperiod();
-    println!(rt; "The hyperperiod is {h}.")
+    println!(rt; "The hyperperiod is {}.", table.hyperperiod())
 }
 
 fn tell_rule(rt: &HostRuntime) -> io::Result<()> {
@@ -102,28 +88,14 @@ fn tell_unit(rt: &HostRuntime, n: u32, ran: Sides<Option<u32>>) -> io::Result<()
 }
 
 fn tell_standing(rt: &HostRuntime, job: Sides<Standing>) -> io::Result<()> {
-    let age = job.full.age;
-    let full = job.full.left;
-    let live = job.live.left;
-    print!(rt; " {age:>3}  {full:>4}  {live:>4} |")
-}
-
-// The columns of all tasks.
-fn tell_standings(rt: &HostRuntime, table: &Table, runs: &Runs) -> io::Result<()> {
-    for i in 0..table.len() {
-        if let Ok(job) = runs.standing(i as u32) {
-            tell_standing(rt, job)?;
-        }
-    }
-    Ok(())
+    let Sides { full, live } = job;
+    print!(rt; " {:>3}  {:>4}  {:>4} |", full.age, full.left, live.left)
 }
 
 // The end of a line.
 fn tell_finish(rt: &HostRuntime, finish: Option<EarlyFinish>) -> io::Result<()> {
     match finish {
-        Some(early) => {
-            let task = early.task;
-            let unused = early.unused;
+        Some(EarlyFinish { task, unused }) => {
             let s = plural(unused);
             println!(rt; " task {task} finishes early in the live run, {unused} unit{s} unused")
         }
@@ -134,47 +106,123 @@ fn tell_finish(rt: &HostRuntime, finish: Option<EarlyFinish>) -> io::Result<()> 
 // That a task does not agree. Up to the full schedule's first miss no task comes to this, which the contract of
 // `Verdict::of` promises; the program does not rely on it.
 fn tell_fault(rt: &HostRuntime, instant: u32, i: u32, job: Sides<Standing>) -> io::Result<()> {
-    let full_age = job.full.age;
-    let full_left = job.full.left;
-    let live_age = job.live.age;
-    let live_left = job.live.left;
+    let Sides { full, live } = job;
     print!(rt; "Instant {instant}: task {i} does not agree: ")?;
-    print!(rt; "age {full_age} and units left {full_left} in the full schedule, ")?;
-    println!(rt; "age {live_age} and units left {live_left} in the live run.")
+    print!(rt;
+        "age {} and units left {} in the full schedule, ",
+        full.age, full.left
+    )?;
+    println!(rt;
+        "age {} and units left {} in the live run.",
+        live.age, live.left
+    )
 }
 
-// Compares a task at an instant. True where it agrees; else it is told.
-fn compare_task(rt: &HostRuntime, instant: u32, i: u32, runs: &Runs) -> io::Result<bool> {
-    match runs.standing(i) {
-        Ok(job) => {
-            if !agree(job) {
-                tell_fault(rt, instant, i, job)?;
+// What the comparison has found so far.
+#[derive(Clone, Copy, Default)]
+struct Findings {
+    // how many instants were compared
+    instants: u32,
+    // how often a task did not agree
+    faults: u32,
+}
+
+// The two runs of a table while they are told, and what comparing them has found.
+#[derive(Drop)]
+struct Telling<'a> {
+    rt: &'a HostRuntime,
+    table: &'a Table,
+    runs: Runs<'a, 'a>,
+    found: Findings,
+}
+
+impl<'a> Telling<'a> {
+    fn new(rt: &'a HostRuntime, table: &'a Table, ordering: &'a TwoPhase) -> Telling<'a> {
+        Telling {
+            rt,
+            table,
+            runs: Runs::new(table, ordering),
+            found: Findings::default(),
+        }
+    }
+
+    // The columns of all tasks.
+    fn tell_standings(&self) -> io::Result<()> {
+        for i in 0..self.table.len() {
+            if let Ok(job) = self.runs.standing(i as u32) {
+                tell_standing(self.rt, job)?;
             }
-            Ok(agree(job))
         }
-        // every task of the table has a job in both runs
-        Err(_) => {
-            println!(rt; "Instant {instant}: task {i} cannot be compared.")?;
-            Ok(false)
-        }
+        Ok(())
     }
-}
 
-// Compares all tasks at an instant.
-fn compare(
-    rt: &HostRuntime,
-    instant: u32,
-    table: &Table,
-    runs: &Runs,
-    found: &mut Findings,
-) -> io::Result<()> {
-    found.instants = found.instants.saturating_add(1);
-    for i in 0..table.len() {
-        if !compare_task(rt, instant, i as u32, runs)? {
-            found.faults = found.faults.saturating_add(1);
+    // Compares a task at an instant. True where it agrees; else it is told.
+    fn compare_task(&self, instant: u32, i: u32) -> io::Result<bool> {
+        // every task of the table has a job in both runs
+        let Ok(job) = self.runs.standing(i) else {
+            println!(self.rt; "Instant {instant}: task {i} cannot be compared.")?;
+            return Ok(false);
+        };
+        if !agree(job) {
+            tell_fault(self.rt, instant, i, job)?;
+        }
+        Ok(agree(job))
+    }
+
+    fn count_fault(&mut self) {
+        self.found.faults = self.found.faults.saturating_add(1);
+    }
+
+    // Compares all tasks at an instant.
+    fn compare(&mut self, instant: u32) -> io::Result<()> {
+        self.found.instants = self.found.instants.saturating_add(1);
+        for i in 0..self.table.len() {
+            if !self.compare_task(instant, i as u32)? {
+                self.count_fault();
+            }
+        }
+        Ok(())
+    }
+
+    // The line of instant 0, which ends no unit.
+    fn tell_start(&mut self) -> io::Result<()> {
+        print!(self.rt; "     |         |         |       0 |")?;
+        self.tell_standings()?;
+        println!(self.rt)?;
+        self.compare(0)
+    }
+
+    // One unit of both runs, told. It breaks off where one of them came to a miss.
+    fn tell_tick(&mut self, n: u32) -> io::Result<ControlFlow<()>> {
+        let instant = n.saturating_add(1);
+        let Ok(outcome) = self.runs.tick() else {
+            return Ok(ControlFlow::Break(()));
+        };
+        tell_unit(self.rt, n, outcome.ran)?;
+        match (outcome.missed.full, outcome.missed.live) {
+            (Some(i), live_missed) => {
+                tell_miss(self.rt, i, live_missed)?;
+                Ok(ControlFlow::Break(()))
+            }
+            (None, Some(i)) => {
+                // the contract of `Verdict::of` rules this out, too
+                self.count_fault();
+                println!(self.rt;
+                    " task {i} misses its deadline in the live run, and no task does in the full schedule"
+                )?;
+                Ok(ControlFlow::Break(()))
+            }
+            (None, None) => {
+                let finish = self
+                    .runs
+                    .finish_by_rule(self.table, instant, outcome.ran.live);
+                self.tell_standings()?;
+                tell_finish(self.rt, finish)?;
+                self.compare(instant)?;
+                Ok(ControlFlow::Continue(()))
+            }
         }
     }
-    Ok(())
 }
 
 // The end of a line at which the full schedule misses.
@@ -186,74 +234,20 @@ fn tell_miss(rt: &HostRuntime, i: u32, live_missed: Option<u32>) -> io::Result<(
     }
 }
 
-// One unit of both runs, told; false where one of them came to a miss.
-fn tell_tick(
-    rt: &HostRuntime,
-    n: u32,
-    table: &Table,
-    runs: &mut Runs,
-    found: &mut Findings,
-) -> io::Result<bool> {
-    let instant = n.saturating_add(1);
-    let Ok(outcome) = runs.tick() else {
-        return Ok(false);
-    };
-    tell_unit(rt, n, outcome.ran)?;
-    match (outcome.missed.full, outcome.missed.live) {
-        (Some(i), live_missed) => {
-            tell_miss(rt, i, live_missed)?;
-            Ok(false)
-        }
-        (None, Some(i)) => {
-            // the contract of `Verdict::of` rules this out, too
-            found.faults = found.faults.saturating_add(1);
-            println!(rt;
-                " task {i} misses its deadline in the live run, and no task does in the full schedule"
-            )?;
-            Ok(false)
-        }
-        (None, None) => {
-            let finish = runs.finish_by_rule(table, instant, outcome.ran.live);
-            tell_standings(rt, table, runs)?;
-            tell_finish(rt, finish)?;
-            compare(rt, instant, table, runs, found)?;
-            Ok(true)
-        }
-    }
-}
-
-// The line of instant 0, which ends no unit.
-fn tell_start(
-    rt: &HostRuntime,
-    table: &Table,
-    runs: &Runs,
-    found: &mut Findings,
-) -> io::Result<()> {
-    print!(rt; "     |         |         |       0 |")?;
-    tell_standings(rt, table, runs)?;
-    println!(rt)?;
-    compare(rt, 0, table, runs, found)
-}
-
 fn tell_runs(rt: &HostRuntime, table: &Table) -> io::Result<Findings> {
     let ordering = TwoPhase::new(table);
-    let mut runs = Runs::new(table, &ordering);
-    let mut found = Findings {
-        instants: 0,
-        faults: 0,
-    };
-    tell_start(rt, table, &runs, &mut found)?;
+    let mut telling = Telling::new(rt, table, &ordering);
+    telling.tell_start()?;
     for n in 0..table.hyperperiod().min(TOLD) {
-        if !tell_tick(rt, n, table, &mut runs, &mut found)? {
+        if let ControlFlow::Break(()) = telling.tell_tick(n)? {
             break;
         }
     }
-    Ok(found)
+    Ok(telling.found)
 }
 
-fn tell_findings(rt: &HostRuntime, found: &Findings) -> io::Result<()> {
-    let instants = found.instants;
-    let faults = found.faults;
+fn tell_findings(rt: &HostRuntime, found: Findings) -> io::Result<()> {
+    let Findings { instants, faults } = found;
     let s = plural(instants);
     if faults == 0 {
         println!(rt;
@@ -269,9 +263,7 @@ fn tell_verdict(rt: &HostRuntime, table: &Table) -> io::Result<()> {
         Verdict::Holds => println!(rt;
             "Verdict under two-phase: holds. This covers every pattern of early finishes: none brings a live run to a miss."
         ),
-        Verdict::Misses(miss) => {
-            let task = miss.task;
-            let instant = miss.instant;
+        Verdict::Misses(Miss { task, instant }) => {
             print!(rt;
                 "Verdict under two-phase: miss. The full schedule's first miss is that of task {task} at instant {instant}; "
             )?;
@@ -291,7 +283,7 @@ fn tell(rt: &HostRuntime, table: &Table) -> io::Result<()> {
     if TOLD < table.hyperperiod() {
         println!(rt; "At most {TOLD} units are told.")?;
     }
-    tell_findings(rt, &found)?;
+    tell_findings(rt, found)?;
     tell_verdict(rt, table)
 }
 

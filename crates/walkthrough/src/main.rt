@@ -4,10 +4,11 @@ use answers::input::{ROOM, fill};
 use orderings::deadline::Deadline;
 use orderings::fixed::Fixed;
 use orderings::two_phase::TwoPhase;
-use refusals::kinds::{ReadRefusal, Refusal};
+use refusals::kinds::{Place, ReadRefusal, Refusal};
 use schedules::run::Run;
-use schedules::verdict::Verdict;
+use schedules::verdict::{Miss, Verdict};
 use std::io;
+use std::ops::ControlFlow;
 use table_text::reading::read;
 use tables::table::Table;
 use tables::task::Task;
@@ -16,27 +17,18 @@ use tables::task::Task;
 const TOLD: u32 = 48;
 
 fn tell_refusal(rt: &HostRuntime, e: ReadRefusal) -> io::Result<()> {
-    let refusal = Refusal::Reading(e);
+    let refusal = Refusal::from(e);
     let number = refusal.number();
     match refusal.place() {
-        Some(place) => {
-            let row = place.row;
-            let field = place.field;
-            println!(rt;
-                "The text is refused with number {number}, at record {row}, field {field}."
-            )
-        }
+        Some(Place { row, field }) => println!(rt;
+            "The text is refused with number {number}, at record {row}, field {field}."
+        ),
         None => println!(rt; "The text is refused with number {number}."),
     }
 }
 
 fn tell_task(rt: &HostRuntime, i: usize, x: Task) -> io::Result<()> {
-    let c = x.c;
-    let d = x.d;
-    let t = x.t;
-    let p1 = x.p1;
-    let p2 = x.p2;
-    let s = x.s;
+    let Task { c, d, t, p1, p2, s } = x;
     print!(rt;
         "Task {i}: a job is released every {t} units; it may use {c} and has to be done after {d}. "
     )?;
@@ -44,13 +36,11 @@ fn tell_task(rt: &HostRuntime, i: usize, x: Task) -> io::Result<()> {
 }
 
 fn tell_table(rt: &HostRuntime, table: &Table) -> io::Result<()> {
-    let n = table.len();
-    println!(rt; "The table has {n} tasks.")?;
+    println!(rt; "The table has {} tasks.", table.len())?;
     for (i, x) in table.tasks().iter().enumerate() {
         tell_task(rt, i, *x)?;
     }
-    let h = table.hyperperiod();
-    println!(rt; "The hyperperiod is {h}.")
+    println!(rt; "The hyperperiod is {}.", table.hyperperiod())
 }
 
 fn tell_unit(rt: &HostRuntime, n: u32, ran: Option<u32>) -> io::Result<()> {
@@ -73,9 +63,9 @@ fn tell_job(
             println!(rt; "Instant {instant}: task {i} is released, with {units} units.")?;
         }
         if age == x.s && units > 0 {
-            let p2 = x.p2;
             println!(rt;
-                "Instant {instant}: task {i} is promoted, its priority number is now {p2}."
+                "Instant {instant}: task {i} is promoted, its priority number is now {}.",
+                x.p2
             )?;
         }
     }
@@ -94,13 +84,9 @@ fn tell_verdict(rt: &HostRuntime, ordering: &str, verdict: Verdict) -> io::Resul
         Verdict::Holds => println!(rt;
             "Verdict under {ordering}: holds. No tick of the endless full schedule misses a deadline."
         ),
-        Verdict::Misses(miss) => {
-            let task = miss.task;
-            let instant = miss.instant;
-            println!(rt;
-                "Verdict under {ordering}: miss. The first deadline missed is that of task {task} at instant {instant}."
-            )
-        }
+        Verdict::Misses(Miss { task, instant }) => println!(rt;
+            "Verdict under {ordering}: miss. The first deadline missed is that of task {task} at instant {instant}."
+        ),
     }
 }
 
@@ -111,27 +97,24 @@ fn tell_verdicts(rt: &HostRuntime, table: &Table) -> io::Result<()> {
     tell_verdict(rt, "deadline", Verdict::of(table, &Deadline::new(table)))
 }
 
-// One tick of the run, told; false where the run came to a miss.
-fn tell_tick(rt: &HostRuntime, n: u32, table: &Table, run: &mut Run<TwoPhase>) -> io::Result<bool> {
+// One tick of the run, told. It breaks off where the run came to a miss.
+fn tell_tick(
+    rt: &HostRuntime,
+    n: u32,
+    table: &Table,
+    run: &mut Run<TwoPhase>,
+) -> io::Result<ControlFlow<()>> {
     let instant = n.saturating_add(1);
-    match run.tick() {
-        Err(_) => Ok(false),
-        Ok((ran, missed)) => {
-            tell_unit(rt, n, ran)?;
-            match missed {
-                Some(i) => {
-                    println!(rt;
-                        "Instant {instant}: task {i} misses its deadline, and the run ends."
-                    )?;
-                    Ok(false)
-                }
-                None => {
-                    tell_jobs(rt, instant, table, run)?;
-                    Ok(true)
-                }
-            }
-        }
+    let Ok((ran, missed)) = run.tick() else {
+        return Ok(ControlFlow::Break(()));
+    };
+    tell_unit(rt, n, ran)?;
+    if let Some(i) = missed {
+        println!(rt; "Instant {instant}: task {i} misses its deadline, and the run ends.")?;
+        return Ok(ControlFlow::Break(()));
     }
+    tell_jobs(rt, instant, table, run)?;
+    Ok(ControlFlow::Continue(()))
 }
 
 fn tell_run(rt: &HostRuntime, table: &Table) -> io::Result<()> {
@@ -139,7 +122,7 @@ fn tell_run(rt: &HostRuntime, table: &Table) -> io::Result<()> {
     let mut run = Run::new(table, &ordering);
     tell_jobs(rt, 0, table, &run)?;
     for n in 0..table.hyperperiod().min(TOLD) {
-        if !tell_tick(rt, n, table, &mut run)? {
+        if let ControlFlow::Break(()) = tell_tick(rt, n, table, &mut run)? {
             break;
         }
     }
