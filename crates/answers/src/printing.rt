@@ -1,11 +1,11 @@
 ghost use Rattle.std.specs.Prelude.{◌≡◌, ◌≤◌, length};
-ghost use Rattle.lines.specs.Lines.{bytes_of, pushed};
+ghost use Rattle.texts.specs.Texts.{bytes_of, pushed};
 ghost use Rattle.answers.specs.Texts.{word_text, column, columns_of, columns_text, answer_text};
 
 use crate::answer::Answer;
 use crate::columns::{Columns, Word};
-use lines::line::Line;
 use refusals::kinds::Refusal;
+use texts::text::Line;
 
 const HEADER: [u8; 54] = *b"answer,task,instant,hyperperiod,refusal,record,field\r\n";
 
@@ -49,7 +49,7 @@ fn columns(answer: &Answer) -> Columns
 
 // The answer's first field: at most 7 bytes.
 fn push_word(line: &mut Line, word: Word)
-    ensures after { bytes_of line.new ≡ pushed (bytes_of line.old) (word_text word) }
+    ensures after { bytes_of line.new ≡ pushed 160 (bytes_of line.old) (word_text word) }
     ensures short { length (word_text word) ≤ 7 }
 {
     match word {
@@ -61,7 +61,7 @@ fn push_word(line: &mut Line, word: Word)
 
 /// Writes a comma and, behind it, the number if there is one: at most 11 bytes.
 pub fn push_column(line: &mut Line, number: Option<u32>)
-    ensures after { bytes_of line.new ≡ pushed (bytes_of line.old) (column number) }
+    ensures after { bytes_of line.new ≡ pushed 160 (bytes_of line.old) (column number) }
     ensures short { length (column number) ≤ 11 }
 {
     line.push(b',');
@@ -72,7 +72,7 @@ pub fn push_column(line: &mut Line, number: Option<u32>)
 
 // An answer's record, ended: at most 75 bytes.
 fn push_columns(line: &mut Line, c: &Columns)
-    ensures after { bytes_of line.new ≡ pushed (bytes_of line.old) (columns_text c.now) }
+    ensures after { bytes_of line.new ≡ pushed 160 (bytes_of line.old) (columns_text c.now) }
     ensures short { length (columns_text c.now) ≤ 75 }
 {
     push_word(line, c.word);
@@ -87,7 +87,7 @@ fn push_columns(line: &mut Line, c: &Columns)
 
 /// Writes an answer's record, ended: at most 75 bytes.
 pub fn push_record(line: &mut Line, answer: &Answer)
-    ensures after { bytes_of line.new ≡ pushed (bytes_of line.old) (columns_text (columns_of answer.now)) }
+    ensures after { bytes_of line.new ≡ pushed 160 (bytes_of line.old) (columns_text (columns_of answer.now)) }
     ensures short { length (columns_text (columns_of answer.now)) ≤ 75 }
 {
     let columns = columns(answer);

@@ -1,19 +1,17 @@
 ghost use Rattle.std.specs.Prelude.{◌≡◌, ◌≤◌, length};
 ghost use Rattle.tables.specs.Tables.{tasks_of};
 ghost use Rattle.table_text.specs.Written.{table_text};
-ghost use Rattle.lines.specs.Lines as lines;
-ghost use Rattle.pages.specs.Pages as pages;
+ghost use Rattle.texts.specs.Texts.{bytes_of};
 ghost use Rattle.desk.specs.Printed.{verdict_text, numbers_text, background_text, laxity_text};
 
 use crate::judging::judge_under;
 use crate::naming::Named;
 use crate::printing::{number_line, refused_line, verdict_line};
-use lines::line::Line;
-use pages::page::Page;
 use refusals::kinds::Refusal;
 use table_text::reading::read;
 use table_text::writing::write;
 use tables::table::Table;
+use texts::text::{Line, Page};
 use viability::laxity::set_by_laxity;
 use viability::own_list::own_background_list;
 
@@ -24,7 +22,7 @@ const NUMBERS_HEADER: [u8; 6] = *b"task\r\n";
 
 /// Reads a table text, judges its table under a named ordering, and gives what is printed of it.
 pub fn verdict_text(text: &[u8], named: Named) -> Page
-    ensures { pages.bytes_of result ≡ verdict_text named text.now }
+    ensures { bytes_of result ≡ verdict_text named text.now }
 {
     let answer = judge_under(text, named);
     let mut page = Page::new();
@@ -35,7 +33,7 @@ pub fn verdict_text(text: &[u8], named: Named) -> Page
 
 // A line on a page of its own.
 fn page_of(line: &Line) -> Page
-    ensures { pages.bytes_of result ≡ lines.bytes_of line.now }
+    ensures { bytes_of result ≡ bytes_of line.now }
 {
     let mut page = Page::new();
     page.push_bytes(line.bytes());
@@ -45,19 +43,19 @@ fn page_of(line: &Line) -> Page
 // A header, and the record of each number.
 fn numbers_text(numbers: &[u32]) -> Page
     requires { length numbers.now ≤ 32 }
-    ensures { pages.bytes_of result ≡ numbers_text numbers.now }
+    ensures { bytes_of result ≡ numbers_text numbers.now }
 {
     let mut page = Page::new();
     page.push_bytes(&NUMBERS_HEADER);
-    for i in 0..numbers.len() {
-        page.push_bytes(number_line(numbers[i]).bytes());
+    for number in numbers {
+        page.push_bytes(number_line(*number).bytes());
     }
     page
 }
 
 /// Reads a table text, and gives what is printed of its table's own background list.
 pub fn background_text(text: &[u8]) -> Page
-    ensures { pages.bytes_of result ≡ background_text text.now }
+    ensures { bytes_of result ≡ background_text text.now }
 {
     let mut table = Table::new();
     match read(text, &mut table) {
@@ -68,7 +66,7 @@ pub fn background_text(text: &[u8]) -> Page
 
 /// The text of a table.
 pub fn table_text(table: &Table) -> Page
-    ensures { pages.bytes_of result ≡ table_text (tasks_of table.now) }
+    ensures { bytes_of result ≡ table_text (tasks_of table.now) }
 {
     let mut out = [0u8; 4_096];
     match write(table, &mut out) {
@@ -84,7 +82,7 @@ pub fn table_text(table: &Table) -> Page
 
 /// Reads a table text, sets the promotion times of its table by laxity, and gives what is printed of it.
 pub fn laxity_text(text: &[u8]) -> Page
-    ensures { pages.bytes_of result ≡ laxity_text text.now }
+    ensures { bytes_of result ≡ laxity_text text.now }
 {
     let mut table = Table::new();
     if let Err(e) = read(text, &mut table) {

@@ -1,13 +1,13 @@
 ghost use Rattle.std.specs.Prelude.{◌≡◌, ◌≤◌, length};
-ghost use Rattle.lines.specs.Lines.{bytes_of, pushed};
+ghost use Rattle.texts.specs.Texts.{bytes_of, pushed};
 ghost use Rattle.desk.specs.Printed.{verdict_record, row_of, field_of, refused_text, number_record, rounds_header, round_word, round_task, round_instant, round_record};
 
 use crate::naming::Named;
 use answers::answer::Answer;
 use answers::printing::{push_column, push_record};
-use lines::line::Line;
 use refusals::kinds::Refusal;
 use searches::search::Round;
+use texts::text::Line;
 
 const REFUSED_HEADER: [u8; 34] = *b"answer,task,refusal,record,field\r\n";
 
@@ -82,7 +82,7 @@ pub fn rounds_header() -> Line
 
 // A comma and what a round answers, in a word: at most 8 bytes.
 fn push_round_word(line: &mut Line, round: Round)
-    ensures after { bytes_of line.new ≡ pushed (bytes_of line.old) (round_word round) }
+    ensures after { bytes_of line.new ≡ pushed 160 (bytes_of line.old) (round_word round) }
     ensures short { length (round_word round) ≤ 8 }
 {
     match round {

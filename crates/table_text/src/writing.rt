@@ -1,20 +1,20 @@
 ghost use Rattle.std.specs.Prelude.{◌≡◌, ◌+◌, ◌≤◌, length, OnErr};
 ghost use Rattle.std.specs.List.{flat_map};
-ghost use Rattle.lines.specs.Lines.{bytes_of, pushed};
+ghost use Rattle.texts.specs.Texts.{bytes_of, pushed};
 ghost use Rattle.tables.specs.Tables.{tasks_of};
 ghost use Rattle.table_text.specs.Puts.{Put};
 ghost use Rattle.table_text.specs.Written.{field_text, record_text, table_text, write_answer, buffer_after, ReadsBack};
 
 use crate::bytes::{CARRIAGE_RETURN, COMMA, HEADER, LINE_END, LINE_FEED};
 use crate::puts::put_bytes;
-use lines::line::Line;
 use refusals::kinds::WriteRefusal;
 use tables::table::Table;
 use tables::task::Task;
+use texts::text::Line;
 
 // A number and the byte behind it: at most 11 bytes.
 fn push_field(line: &mut Line, v: u32, b: u8)
-    ensures after { bytes_of line.new ≡ pushed (bytes_of line.old) (field_text v b) }
+    ensures after { bytes_of line.new ≡ pushed 160 (bytes_of line.old) (field_text v b) }
     ensures short { length (field_text v b) ≤ 11 }
 {
     line.push_number(v);

@@ -1,7 +1,7 @@
 use Rattle.std.proofs.Common.{◌++◌, arith}
 use Rattle.std.proofs.lemmas.List.{length-append}
-use Rattle.lines.specs.Lines.{bytes_of}
-use Rattle.lines.proofs.Pushed.{pushed_next}
+use Rattle.texts.specs.Texts.{bytes_of}
+use Rattle.texts.proofs.Pushed.{pushed_next}
 use Rattle.answers.specs.Texts.{word_text, column, columns_text, line_end}
 use Rattle.answers.proofs.printing.push_columns.Goals as goal
 
@@ -25,12 +25,12 @@ returns c =
     let t1 = column x.task ++ t2 in
     record {
       after =
-          pushed_next (bytes_of c.args.line.now) (bytes_of w.new.line) last (word_text x.word) t1 w.ensures.after
-          (pushed_next (bytes_of w.new.line) (bytes_of p1.new.line) last (column x.task) t2 p1.ensures.after
-          (pushed_next (bytes_of p1.new.line) (bytes_of p2.new.line) last (column x.instant) t3 p2.ensures.after
-          (pushed_next (bytes_of p2.new.line) (bytes_of p3.new.line) last (column x.hyperperiod) t4 p3.ensures.after
-          (pushed_next (bytes_of p3.new.line) (bytes_of p4.new.line) last (column x.refusal) t5 p4.ensures.after
-          (pushed_next (bytes_of p4.new.line) (bytes_of p5.new.line) last (column x.row) t6 p5.ensures.after
-          (pushed_next (bytes_of p5.new.line) (bytes_of p6.new.line) last (column x.field) line_end p6.ensures.after c.push_bytes.ensures))))));
+          pushed_next 160 (bytes_of c.args.line.now) (bytes_of w.new.line) last (word_text x.word) t1 w.ensures.after
+          (pushed_next 160 (bytes_of w.new.line) (bytes_of p1.new.line) last (column x.task) t2 p1.ensures.after
+          (pushed_next 160 (bytes_of p1.new.line) (bytes_of p2.new.line) last (column x.instant) t3 p2.ensures.after
+          (pushed_next 160 (bytes_of p2.new.line) (bytes_of p3.new.line) last (column x.hyperperiod) t4 p3.ensures.after
+          (pushed_next 160 (bytes_of p3.new.line) (bytes_of p4.new.line) last (column x.refusal) t5 p4.ensures.after
+          (pushed_next 160 (bytes_of p4.new.line) (bytes_of p5.new.line) last (column x.row) t6 p5.ensures.after
+          (pushed_next 160 (bytes_of p5.new.line) (bytes_of p6.new.line) last (column x.field) line_end p6.ensures.after c.push_bytes.ensures))))));
       short = simp length-append (omega (arith, w.ensures.short, p1.ensures.short, p2.ensures.short, p3.ensures.short, p4.ensures.short, p5.ensures.short, p6.ensures.short));
     }

@@ -1,8 +1,8 @@
 use Rattle.std.proofs.Common.{◌-◌, [], take, replicate, ap, ◌∙◌, arith}
 use Rattle.tables.specs.Tables.{tasks_of}
 use Rattle.table_text.specs.Written.{table_text}
-use Rattle.pages.specs.Pages.{pushed}
-use Rattle.pages.proofs.Pushed.{pushed_all}
+use Rattle.texts.specs.Texts.{pushed}
+use Rattle.texts.proofs.Pushed.{pushed_all}
 use Rattle.desk.proofs.Fitting.{text_short, fits_blank, not_refused, front_is}
 use Rattle.desk.proofs.outputs.table_text.Goals as goal
 
@@ -16,6 +16,6 @@ returns c =
     let t = c.args.table.now in
     let short = text_short t in
     c.push_bytes.ensures
-    ∙ ap (λ l. pushed l (take (c.in-Ok.n - 0) c.write.new.out)) c.new-page.ensures
-    ∙ ap (pushed []) (front_is (table_text (tasks_of t)) (replicate 4096 0) (fits_blank t) c.write.new.out c.in-Ok.n c.in-Ok.ensures.answer c.in-Ok.ensures.buffer_after)
-    ∙ pushed_all [] (table_text (tasks_of t)) (omega arith)
+    ∙ ap (λ l. pushed 4352 l (take (c.in-Ok.n - 0) c.write.new.out)) c.new-page.ensures
+    ∙ ap (pushed 4352 []) (front_is (table_text (tasks_of t)) (replicate 4096 0) (fits_blank t) c.write.new.out c.in-Ok.n c.in-Ok.ensures.answer c.in-Ok.ensures.buffer_after)
+    ∙ pushed_all 4352 [] (table_text (tasks_of t)) (omega arith)

@@ -1,8 +1,8 @@
 use Rattle.std.proofs.Common.{[], ◌++◌, Some, codes, ap, ◌∙◌, arith}
 use Rattle.std.proofs.lemmas.List.{length-append}
 use Rattle.refusals.specs.Numbers.{number_of, task_of}
-use Rattle.lines.specs.Lines.{bytes_of, pushed}
-use Rattle.lines.proofs.Pushed.{pushed_next, pushed_all}
+use Rattle.texts.specs.Texts.{bytes_of, pushed}
+use Rattle.texts.proofs.Pushed.{pushed_next, pushed_all}
 use Rattle.answers.specs.Texts.{line_end, column}
 use Rattle.desk.specs.Printed.{row_of, refused_header, refused_record, refused_text}
 use Rattle.desk.proofs.printing.refused_line.Goals as goal
@@ -29,13 +29,13 @@ returns c =
     let c3 = column c.row_of.result in
     let c4 = column c.field_of.result in
     let text = refused_header ++ (codes "refused" ++ (c1 ++ (c2 ++ (c3 ++ (c4 ++ line_end))))) in
-    pushed_next [] b0 last refused_header _ (h.ensures ∙ ap (λ l. pushed l refused_header) c.new-line.ensures)
-    (pushed_next b0 b1 last (codes "refused") _ w.ensures
-    (pushed_next b1 b2 last c1 _ p1.ensures.after
-    (pushed_next b2 b3 last c2 _ p2.ensures.after
-    (pushed_next b3 b4 last c3 _ p3.ensures.after
-    (pushed_next b4 b5 last c4 line_end p4.ensures.after c.push_bytes-3.ensures)))))
-    ∙ pushed_all [] text (simp length-append (omega (arith, p1.ensures.short, p2.ensures.short, p3.ensures.short, p4.ensures.short)))
+    pushed_next 160 [] b0 last refused_header _ (h.ensures ∙ ap (λ l. pushed 160 l refused_header) c.new-line.ensures)
+    (pushed_next 160 b0 b1 last (codes "refused") _ w.ensures
+    (pushed_next 160 b1 b2 last c1 _ p1.ensures.after
+    (pushed_next 160 b2 b3 last c2 _ p2.ensures.after
+    (pushed_next 160 b3 b4 last c3 _ p3.ensures.after
+    (pushed_next 160 b4 b5 last c4 line_end p4.ensures.after c.push_bytes-3.ensures)))))
+    ∙ pushed_all 160 [] text (simp length-append (omega (arith, p1.ensures.short, p2.ensures.short, p3.ensures.short, p4.ensures.short)))
     ∙ ap (λ x. refused_header ++ (codes "refused" ++ (column x ++ (c2 ++ (c3 ++ (c4 ++ line_end)))))) c.task.ensures
     ∙ ap (λ x. refused_header ++ (codes "refused" ++ (column (task_of e) ++ (column (Some x) ++ (c3 ++ (c4 ++ line_end)))))) c.number.ensures
     ∙ ap (λ x. refused_header ++ (codes "refused" ++ (column (task_of e) ++ (column (Some (number_of e)) ++ (column x ++ (c4 ++ line_end)))))) c.row_of.ensures

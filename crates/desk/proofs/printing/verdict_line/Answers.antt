@@ -1,7 +1,7 @@
 use Rattle.std.proofs.Common.{◌≤◌, [], ◌∷◌, ◌++◌, length, ap, ◌∙◌, arith}
 use Rattle.std.proofs.lemmas.List.{length-append}
-use Rattle.lines.specs.Lines.{bytes_of, pushed}
-use Rattle.lines.proofs.Pushed.{pushed_next, pushed_all}
+use Rattle.texts.specs.Texts.{bytes_of, pushed}
+use Rattle.texts.proofs.Pushed.{pushed_next, pushed_all}
 use Rattle.answers.specs.Texts.{columns_of, columns_text}
 use Rattle.desk.specs.Words.{named_text}
 use Rattle.desk.specs.Printed.{verdict_record}
@@ -19,9 +19,9 @@ returns c =
     let last = bytes_of p.new.line in
     let short : length (name ++ (44 ∷ text)) ≤ 101 = simp length-append (omega (arith, p.ensures.short, name_short c.args.named)) in
     record {
-      bytes = pushed_next [] b1 last name (44 ∷ text)
-          (c.push_bytes.ensures ∙ ap (pushed _) (c.as_bytes.ensures.value ∙ c.name.ensures) ∙ ap (λ l. pushed l name) c.new-line.ensures)
-          (pushed_next b1 b2 last (44 ∷ []) text c.push.ensures p.ensures.after)
-          ∙ pushed_all [] (name ++ (44 ∷ text)) (omega arith);
+      bytes = pushed_next 160 [] b1 last name (44 ∷ text)
+          (c.push_bytes.ensures ∙ ap (pushed 160 _) (c.as_bytes.ensures.value ∙ c.name.ensures) ∙ ap (λ l. pushed 160 l name) c.new-line.ensures)
+          (pushed_next 160 b1 b2 last (44 ∷ []) text c.push.ensures p.ensures.after)
+          ∙ pushed_all 160 [] (name ++ (44 ∷ text)) (omega arith);
       short = short;
     }

@@ -1,4 +1,0 @@
-use Rattle.pages.proofs.page.Page.+push_number.Given as goal
-
-abbrev pub decreases-push_number : goal.decreases-push_number
-decreases-push_number l = l.v

@@ -1,6 +1,0 @@
-use Rattle.std.proofs.Common.{◌≡◌, take}
-use Rattle.pages.specs.Pages.{bytes_of, pushed}
-use Rattle.pages.proofs.page.Page.push_bytes.Given as goal
-
-abbrev pub invariant-loop-b : goal.invariant-loop-b
-invariant-loop-b l = bytes_of l.self ≡ pushed (bytes_of l.initial.self) (take l.b-index l.bytes)

@@ -1,4 +1,0 @@
-#![tactic(auto)]
-
-pub mod calls;
-pub mod page;

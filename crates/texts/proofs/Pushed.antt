@@ -1,0 +1,48 @@
+-- Pushes, one after the other.
+use Rattle.std.proofs.Common.{◌≡◌, ℕ, zero, suc, ◌+◌, ◌<◌, ◌≤◌, List, [], ◌∷◌, ◌++◌, length, get_or, take, set, sym, refl, ap, ◌∙◌, append_assoc, arith}
+use Rattle.std.proofs.lemmas.List.{append-nil, take_all, take_at, take_more, take_more_set, length-append, length-take-le}
+use Rattle.texts.specs.declared.text.Text.{Text}
+use Rattle.texts.specs.Texts.{bytes_of, pushed}
+
+cut_again : (n : ℕ) (a b : List ℕ) → take n (take n a ++ b) ≡ take n (a ++ b)
+cut_again zero a b = refl
+cut_again (suc n) [] b = refl
+cut_again (suc n) (x ∷ a) b = ap (λ r. x ∷ r) (cut_again n a b)
+
+module _ (room : ℕ) where
+  -- nothing is cut off of what fits
+  pub pushed_all : (a b : List ℕ) → length a + length b ≤ room → pushed room a b ≡ a ++ b
+  unfolding pushed
+  pushed_all a b h = take_all room (a ++ b) (let n = length-append a b in omega arith)
+
+  -- one push after another is a push of both
+  pub pushed_then : (a b c : List ℕ) → pushed room (pushed room a b) c ≡ pushed room a (b ++ c)
+  unfolding pushed
+  pushed_then a b c = cut_again room (a ++ b) c ∙ ap (take room) (append_assoc a b c)
+
+  pub pushed_next : (old mid last a b : List ℕ) → mid ≡ pushed room old a → last ≡ pushed room mid b → last ≡ pushed room old (a ++ b)
+  pushed_next old mid last a b e f = f ∙ ap (λ r. pushed room r b) e ∙ pushed_then old a b
+
+  -- one turn of a loop over bytes
+  pub pushed_more : (a s now next : List ℕ) (i : ℕ) → i < length s → now ≡ pushed room a (take i s) → next ≡ pushed room now (get_or s i 0 ∷ []) → next ≡ pushed room a (take (i + 1) s)
+  pushed_more a s now next i h e f =
+      pushed_next a now next (take i s) (get_or s i 0 ∷ []) e f ∙ ap (pushed room a) (sym (take_more s i 0 h))
+
+module _ {N : ℕ} (t : Text N) where
+  pub length_bytes : length (bytes_of t) ≡ t.len
+  length_bytes = let w = t.wide in let n = t.within in length-take-le t.len t.memory (omega arith)
+
+  -- no byte behind a text
+  pub pushed_none : bytes_of t ≡ pushed N (bytes_of t) []
+  pushed_none = sym (pushed_all N (bytes_of t) [] (let n = length_bytes in let w = t.within in omega arith) ∙ append-nil (bytes_of t))
+
+  -- one byte where there is room, and where there is none
+  pub pushed_byte : (b : ℕ) → t.len < N → take (t.len + 1) (set t.memory t.len b) ≡ pushed N (bytes_of t) (b ∷ [])
+  pushed_byte b h =
+      let w = t.wide in
+      let n = length_bytes in
+      take_more_set t.memory t.len b (omega arith) ∙ sym (pushed_all N (bytes_of t) (b ∷ []) (omega arith))
+
+  pub pushed_full : (b : ℕ) → N ≤ t.len → bytes_of t ≡ pushed N (bytes_of t) (b ∷ [])
+  unfolding pushed
+  pushed_full b h = let n = length_bytes in let w = t.within in sym (take_at (bytes_of t) (b ∷ []) N (omega arith))
