@@ -15,10 +15,9 @@ use texts::text::{Line, Page};
 use viability::laxity::set_by_laxity;
 use viability::own_list::own_background_list;
 
-const VERDICT_HEADER: [u8; 63] =
-    *b"ordering,answer,task,instant,hyperperiod,refusal,record,field\r\n";
+const VERDICT_HEADER: &[u8] = b"ordering,answer,task,instant,hyperperiod,refusal,record,field\r\n";
 
-const NUMBERS_HEADER: [u8; 6] = *b"task\r\n";
+const NUMBERS_HEADER: &[u8] = b"task\r\n";
 
 /// Reads a table text, judges its table under a named ordering, and gives what is printed of it.
 pub fn verdict_text(text: &[u8], named: Named) -> Page
@@ -26,7 +25,7 @@ pub fn verdict_text(text: &[u8], named: Named) -> Page
 {
     let answer = judge_under(text, named);
     let mut page = Page::new();
-    page.push_bytes(&VERDICT_HEADER);
+    page.push_bytes(VERDICT_HEADER);
     page.push_bytes(verdict_line(named, &answer).bytes());
     page
 }
@@ -46,7 +45,7 @@ fn numbers_text(numbers: &[u32]) -> Page
     ensures { bytes_of result ≡ numbers_text numbers.now }
 {
     let mut page = Page::new();
-    page.push_bytes(&NUMBERS_HEADER);
+    page.push_bytes(NUMBERS_HEADER);
     for number in numbers {
         page.push_bytes(number_line(*number).bytes());
     }

@@ -1,10 +1,10 @@
-use Rattle.std.proofs.Common.{[], ◌++◌, Some, codes, ap, ◌∙◌, arith}
+use Rattle.std.proofs.Common.{rules, ◌≡◌, [], ◌++◌, Some, codes, ap, ◌∙◌, arith}
 use Rattle.std.proofs.lemmas.List.{length-append}
 use Rattle.refusals.specs.Numbers.{number_of, task_of}
 use Rattle.texts.specs.Texts.{bytes_of, pushed}
 use Rattle.texts.proofs.Pushed.{pushed_next, pushed_all}
 use Rattle.answers.specs.Texts.{line_end, column}
-use Rattle.desk.specs.Printed.{row_of, refused_header, refused_record, refused_text}
+use Rattle.desk.specs.Printed.{row_of, field_of, refused_header, refused_record, refused_text}
 use Rattle.desk.proofs.printing.refused_line.Goals as goal
 
 pub returns : goal.returns
@@ -26,8 +26,10 @@ returns c =
     let last = bytes_of c.push_bytes-3.new.self in
     let c1 = column c.task.result in
     let c2 = column (Some c.number.result) in
-    let c3 = column c.row_of.result in
-    let c4 = column c.field_of.result in
+    let c3 = column c.map.result in
+    let c4 = column c.map-2.result in
+    let row : c.map.result ≡ row_of e = search rules in
+    let field : c.map-2.result ≡ field_of e = search rules in
     let text = refused_header ++ (codes "refused" ++ (c1 ++ (c2 ++ (c3 ++ (c4 ++ line_end))))) in
     pushed_next 160 [] b0 last refused_header _ (h.ensures ∙ ap (λ l. pushed 160 l refused_header) c.new-line.ensures)
     (pushed_next 160 b0 b1 last (codes "refused") _ w.ensures
@@ -38,5 +40,5 @@ returns c =
     ∙ pushed_all 160 [] text (simp length-append (omega (arith, p1.ensures.short, p2.ensures.short, p3.ensures.short, p4.ensures.short)))
     ∙ ap (λ x. refused_header ++ (codes "refused" ++ (column x ++ (c2 ++ (c3 ++ (c4 ++ line_end)))))) c.task.ensures
     ∙ ap (λ x. refused_header ++ (codes "refused" ++ (column (task_of e) ++ (column (Some x) ++ (c3 ++ (c4 ++ line_end)))))) c.number.ensures
-    ∙ ap (λ x. refused_header ++ (codes "refused" ++ (column (task_of e) ++ (column (Some (number_of e)) ++ (column x ++ (c4 ++ line_end)))))) c.row_of.ensures
-    ∙ ap (λ x. refused_header ++ (codes "refused" ++ (column (task_of e) ++ (column (Some (number_of e)) ++ (column (row_of e) ++ (column x ++ line_end)))))) c.field_of.ensures
+    ∙ ap (λ x. refused_header ++ (codes "refused" ++ (column (task_of e) ++ (column (Some (number_of e)) ++ (column x ++ (c4 ++ line_end)))))) row
+    ∙ ap (λ x. refused_header ++ (codes "refused" ++ (column (task_of e) ++ (column (Some (number_of e)) ++ (column (row_of e) ++ (column x ++ line_end)))))) field
