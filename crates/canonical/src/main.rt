@@ -1,36 +1,38 @@
 #![tactic(auto)]
 
-use answers::input::{ROOM, fill};
+ghost use Rattle.std.specs.Prelude.{◌≤◌, length, IfOk};
+
 use anyhow::anyhow;
 use refusals::kinds::Refusal;
-use std::io::Write;
-use table_text::reading::read;
+use std::io::{Read, Write};
+use table_text::reading::{ENOUGH, read};
 use table_text::writing::write;
 use tables::table::Table;
 
-fn refused(rt: &HostRuntime, refusal: Refusal) -> anyhow::Result<()> {
-    let number = refusal.number();
-    let text = format!(in rt.alloc(); "refused with number {number}")?;
-    // between quotes, as a text is told on standard error
-    Err(anyhow!("{text:?}"))
+// No table's text is longer.
+const LONGEST: usize = 4_096;
+
+// Reads a table text and writes it again at the front of a buffer, and answers how long it is there: nothing quoted, no
+// leading zeros, every record ended.
+fn canonical(text: &[u8], out: &mut [u8]) -> Result<usize, Refusal>
+    ensures { IfOk result (λ n. n ≤ length out.new) }
+{
+    let mut table = Table::new();
+    read(text, &mut table)?;
+    Ok(write(&table, out)?)
 }
 
-// Reads a table text and writes it again: nothing quoted, no leading zeros, every record ended.
 fn run(rt: &HostRuntime) -> anyhow::Result<()> {
-    let mut text = [0u8; ROOM];
-    let len = fill(&mut rt.stdin(), &mut text)?;
-    let mut table = Table::new();
-    if let Err(e) = read(&text[0..len], &mut table) {
-        return refused(rt, Refusal::Reading(e));
-    }
-    let mut out = [0u8; ROOM];
-    match write(&table, &mut out) {
-        Err(e) => refused(rt, Refusal::Writing(e)),
-        Ok(n) => {
-            rt.stdout().write_all(&out[0..n])?;
-            Ok(())
-        }
-    }
+    let mut text = Vec::new(rt.alloc());
+    rt.stdin().take(ENOUGH).read_to_end(&mut text)?;
+    let mut out = [0u8; LONGEST];
+    // between quotes, as a text is told on standard error
+    let len = canonical(&text, &mut out).map_err(|e| anyhow!(
+        "\"refused with number {}\"",
+        e.number()
+    ))?;
+    rt.stdout().write_all(&out[..len])?;
+    Ok(())
 }
 
 fn main(rt: HostRuntime) -> anyhow::Result<()> {

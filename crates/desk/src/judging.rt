@@ -23,9 +23,7 @@ fn lowest_of(named: Named) -> Base
     ensures { result ≡ lowest_of named }
 {
     match named {
-        Named::Plain(base) => base,
-        Named::Promotion(base) => base,
-        Named::Background(base) => base,
+        Named::Plain(base) | Named::Promotion(base) | Named::Background(base) => base,
     }
 }
 

@@ -1,8 +1,8 @@
-ghost use Rattle.std.specs.Prelude.{◌≡◌, ◌≤◌, length};
+ghost use Rattle.std.specs.Prelude.{◌≡◌, ◌≤◌, length, MatchResult};
 ghost use Rattle.tables.specs.Tables.{tasks_of};
 ghost use Rattle.table_text.specs.Written.{table_text};
 ghost use Rattle.texts.specs.Texts.{bytes_of};
-ghost use Rattle.desk.specs.Printed.{verdict_text, numbers_text, background_text, laxity_text};
+ghost use Rattle.desk.specs.Printed.{verdict_text, numbers_text, background_text, refused_text, laxity_text};
 
 use crate::judging::judge_under;
 use crate::naming::Named;
@@ -58,7 +58,7 @@ pub fn background_text(text: &[u8]) -> Page
 {
     let mut table = Table::new();
     match read(text, &mut table) {
-        Err(e) => page_of(&refused_line(&Refusal::Reading(e))),
+        Err(e) => page_of(&refused_line(&Refusal::from(e))),
         Ok(_) => numbers_text(own_background_list(&table).numbers()),
     }
 }
@@ -79,16 +79,24 @@ pub fn table_text(table: &Table) -> Page
     }
 }
 
+// The table of a text, with promotion times by laxity.
+fn lax_table(text: &[u8]) -> Result<Table, Refusal>
+    ensures { MatchResult result
+        (λ t. table_text (tasks_of t) ≡ laxity_text text.now)
+        (λ e. refused_text e ≡ laxity_text text.now) }
+{
+    let mut table = Table::new();
+    read(text, &mut table)?;
+    set_by_laxity(&mut table)?;
+    Ok(table)
+}
+
 /// Reads a table text, sets the promotion times of its table by laxity, and gives what is printed of it.
 pub fn laxity_text(text: &[u8]) -> Page
     ensures { bytes_of result ≡ laxity_text text.now }
 {
-    let mut table = Table::new();
-    if let Err(e) = read(text, &mut table) {
-        return page_of(&refused_line(&Refusal::Reading(e)));
-    }
-    match set_by_laxity(&mut table) {
-        Err(e) => page_of(&refused_line(&Refusal::Laxity(e))),
-        Ok(_) => table_text(&table),
+    match lax_table(text) {
+        Err(e) => page_of(&refused_line(&e)),
+        Ok(table) => table_text(&table),
     }
 }

@@ -6,7 +6,7 @@ use desk::naming::Base;
 use desk::outputs::{background_text, laxity_text, table_text, verdict_text};
 use desk::printing::{refused_line, round_line, rounds_header};
 use desk::rounds::enough_rounds;
-use desk::words::{command_of, told};
+use desk::words::command_of;
 use orderings::deadline::Deadline;
 use orderings::fixed::Fixed;
 use orderings::ordering::Ordering;
@@ -21,11 +21,8 @@ use tables::table::Table;
 // The command of the words behind the program's name.
 fn asked(rt: &HostRuntime) -> anyhow::Result<Command> {
     let words: Vec<String> = env::args(rt)?.skip(1).collect(rt.alloc())?;
-    match command_of(&words) {
-        Ok(command) => Ok(command),
-        // between quotes, as a text is told on standard error
-        Err(expected) => Err(anyhow!("{:?}", told(expected))),
-    }
+    // between quotes, as a text is told on standard error
+    command_of(&words).map_err(|expected| anyhow!("\"{expected}\""))
 }
 
 // Searches for promotion times over an ordering, and prints each round as it comes and then the table.
@@ -49,7 +46,7 @@ fn search_text(rt: &HostRuntime, text: &[u8], base: Base) -> anyhow::Result<()> 
     let mut table = Table::new();
     if let Err(e) = read(text, &mut table) {
         rt.stdout()
-            .write_all(refused_line(&Refusal::Reading(e)).bytes())?;
+            .write_all(refused_line(&Refusal::from(e)).bytes())?;
         return Ok(());
     }
     match base {

@@ -26,8 +26,7 @@ fn rounds(search: &mut Search<Fixed>) -> u32 {
 fn tell(rt: &HostRuntime, rounds: u64, table: &Table) -> io::Result<()> {
     print!(rt; "{rounds} rounds in {TIMES} searches, S")?;
     for x in table.tasks() {
-        let s = x.s;
-        print!(rt; " {s}")?;
+        print!(rt; " {}", x.s)?;
     }
     println!(rt)
 }
