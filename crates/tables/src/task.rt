@@ -1,5 +1,5 @@
 /// One periodic task, in whole time units. A smaller priority number is more urgent.
-#[derive(Clone, Copy, Debug)]
+#[derive(Clone, Copy, Debug, PartialEq, Eq)]
 pub struct Task {
     /// C, the execution budget of a job.
     pub c: u32,
