@@ -31,4 +31,3 @@ invariant_of-self c =
       ranked = subst (Each Ranked) (sym more) (each_push Ranked ts x t.ranked ranks);
       short = omega arith;
     }
-

@@ -1,6 +1,5 @@
-use Rattle.std.proofs.Common.{rules, ◌≡◌, length, get_or, sym, ap, ◌∙◌, subst, arith}
+use Rattle.std.proofs.Common.{◌≡◌, length, get_or, sym, ap, subst, arith}
 use Rattle.std.proofs.lemmas.Grind.{common_steps}
-use Rattle.tables.specs.Divisors.{lcm}
 use Rattle.tables.specs.Tasks.{nobody, Timed}
 use Rattle.tables.specs.Hyperperiod.{hyperperiod_of, LeastCommonMultiple}
 use Rattle.tables.specs.Tables.{tasks_of}
@@ -22,7 +21,7 @@ least_multiple-h-requires c =
     record { positive = omega arith; first = omega (arith, t.short); second = omega (arith, l.3) }
 
 pub loop-x-preserved : goal.loop-x-preserved
-loop-x-preserved c = c.least_multiple-h.ensures ∙ ap (λ h. lcm h (get_or c.tasks-x-items.result.now c.loop-x.x-index nobody).t) c.loop-x.invariant ∙ sym (hyper_more c.tasks-x-items.result.now c.loop-x.x-index c.loop-x-test.true)
+loop-x-preserved c = let e = hyper_more c.tasks-x-items.result.now c.loop-x.x-index c.loop-x-test.true in cc
 
 pub returns-clause-least_common_multiple : goal.returns-clause-least_common_multiple
 returns-clause-least_common_multiple c =

@@ -1,14 +1,14 @@
-use Rattle.std.proofs.Common.{◌≡◌, ◌<◌, length, get_or, take, set, sym, refl, ap, ◌∙◌, subst, arith}
+use Rattle.std.proofs.Common.{◌≡◌, ◌<◌, length, get_or, take, set, sym, ap, ◌∙◌, subst, arith}
 use lib.Seq.{take-set-lt}
 use Rattle.std.proofs.lemmas.List.{length-set}
 use Rattle.tables.specs.Tasks.{nobody, Each, Timed, Ranked}
 use Rattle.tables.specs.Tables.{tasks_of}
 use Rattle.tables.specs.Hyperperiod.{hyperperiod_of}
-use Rattle.tables.specs.Setting.{with_promotion, set_by, tasks_set_by, OnlyPromotion}
+use Rattle.tables.specs.Setting.{with_promotion, tasks_set_by}
 use Rattle.tables.specs.declared.task.Task.{Task}
 use Rattle.tables.proofs.Multiples.{hyper_set}
 use Rattle.tables.proofs.Counted.{tasks_count, tasks_at}
-use Rattle.tables.proofs.Set.{at_some, each_set, fault_nothing, only_promotion}
+use Rattle.tables.proofs.Set.{at_some, each_set, fault_nothing}
 use Rattle.tables.proofs.table.Table.set_promotion.Goals as goal
 
 pub invariant_of-self : goal.invariant_of-self
