@@ -26,8 +26,8 @@ fn table_of(tasks: &[Task]) -> Table
     ensures { tasks_of result ≡ fold tasks_after_adding [] tasks.now }
 {
     let mut table = Table::new();
-    for i in 0..tasks.len() {
-        let _ = table.add(tasks[i]);
+    for x in tasks {
+        let _ = table.add(*x);
     }
     table
 }

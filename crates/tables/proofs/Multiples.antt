@@ -2,8 +2,8 @@
 use Rattle.std.proofs.Common.{◌≡◌, ℕ, zero, suc, ◌+◌, ◌<◌, ◌≤◌, List, [], ◌∷◌, ◌++◌, length, get_or, take, drop, set, fold, sym, refl, ap, ◌∙◌, arith}
 use Prim.Native.Nat.{◌∣◌}
 use native.Mathlib.Nat.{dvd_refl, dvd_trans, le_of_dvd, one-dvd, pos_of_dvd_of_pos}
-use Rattle.std.proofs.lemmas.List.Sums.{fold_push, fold_more}
 use Rattle.std.proofs.lemmas.List.{take-append-drop}
+use Rattle.std.proofs.lemmas.Grind.{common_steps}
 use Rattle.tables.specs.Divisors.{lcm}
 use Rattle.tables.specs.Tasks.{Each, nobody}
 use Rattle.tables.specs.Hyperperiod.{hyperperiod_of, CommonMultiple, LeastCommonMultiple}
@@ -35,8 +35,7 @@ from_least h m (x ∷ xs) p all d each =
     from_least (lcm h x.t) m xs (lcm_pos h x.t p (all 0 (omega arith))) (λ k l. all (suc k) (omega arith)) (lcm_least h x.t m p d (each 0 (omega arith))) (λ k l. each (suc k) (omega arith))
 
 from_append : (h : ℕ) (xs ys : List Task) → from h (xs ++ ys) ≡ from (from h xs) ys
-from_append h [] ys = refl
-from_append h (x ∷ xs) ys = from_append (lcm h x.t) xs ys
+from_append h xs ys = grind (arith, common_steps)
 
 pub hyper_nil : hyperperiod_of [] ≡ 1
 unfolding hyperperiod_of
@@ -44,11 +43,11 @@ hyper_nil = refl
 
 pub hyper_push : (xs : List Task) (x : Task) → hyperperiod_of (xs ++ x ∷ []) ≡ lcm (hyperperiod_of xs) x.t
 unfolding hyperperiod_of
-hyper_push xs x = fold_push (λ h x. lcm h x.t) 1 xs x
+hyper_push xs x = grind (arith, common_steps)
 
 pub hyper_more : (xs : List Task) (i : ℕ) → i < length xs → hyperperiod_of (take (i + 1) xs) ≡ lcm (hyperperiod_of (take i xs)) (get_or xs i nobody).t
 unfolding hyperperiod_of
-hyper_more xs i h = fold_more (λ h x. lcm h x.t) 1 xs i nobody h
+hyper_more xs i h = grind (arith, common_steps)
 
 pub hyper_pos : (xs : List Task) → Positive xs → 0 < hyperperiod_of xs
 unfolding hyperperiod_of

@@ -5,3 +5,4 @@ pub mod Adding
 pub mod Tables
 pub mod Setting
 pub mod Equality
+pub mod Made

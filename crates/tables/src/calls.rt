@@ -33,6 +33,7 @@ fn priorities_within_bounds(x: &Task) -> bool
 
 impl Table {
     /// The empty table.
+    #[tactic(auto, unfolding(crate::specs::Hyperperiod::hyperperiod_of))]
     pub fn new() -> Table
         ensures no_tasks { tasks_of result ≡ [] }
         ensures hyperperiod_is_one { hyperperiod_of (tasks_of result) ≡ 1 }
@@ -64,12 +65,7 @@ impl Table {
     pub fn get(&self, i: u32) -> Option<Task>
         ensures { result ≡ task_at (tasks_of self.now) i }
     {
-        let k = i as usize;
-        if k < self.rows.count {
-            Some(self.rows.tasks[k])
-        } else {
-            None
-        }
+        self.tasks().get(i as usize).copied()
     }
 
     /// The hyperperiod: the least common multiple of all periods, 1 for the empty table.
@@ -78,8 +74,8 @@ impl Table {
         ensures least_common_multiple { LeastCommonMultiple (tasks_of self.now) result }
     {
         let mut h = 1u64;
-        for i in 0..self.rows.count {
-            h = least_multiple(h, self.rows.tasks[i].t as u64);
+        for x in self.tasks() {
+            h = least_multiple(h, x.t as u64);
         }
         h as u32
     }
@@ -118,14 +114,11 @@ impl Table {
         ensures changes_that_promotion_alone { OnOk result (OnlyPromotion (tasks_of self.old) (tasks_of self.new) i s) }
         ensures same_if_refused { OnErr result (self.new ≡ self.old) }
     {
-        let k = i as usize;
-        if k >= self.rows.count {
-            return Err(SetRefusal::NoSuchTask);
-        }
-        if s > self.rows.tasks[k].d {
+        let task = self.get(i).ok_or(SetRefusal::NoSuchTask)?;
+        if s > task.d {
             return Err(SetRefusal::PromotionOutOfBounds);
         }
-        self.rows.tasks[k].s = s;
+        self.rows.tasks[i as usize].s = s;
         Ok(())
     }
 }

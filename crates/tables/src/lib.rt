@@ -3,5 +3,6 @@
 pub mod calls;
 pub mod equality;
 mod euclid;
+pub mod of_tasks;
 pub mod table;
 pub mod task;

@@ -1,5 +1,5 @@
 /// One periodic task, in whole time units. A smaller priority number is more urgent.
-#[derive(Clone, Copy, Debug)]
+#[derive(Clone, Copy, Debug, PartialEq, Eq)]
 pub struct Task {
     /// C, the execution budget of a job.
     pub c: u32,
@@ -15,6 +15,7 @@ pub struct Task {
     pub s: u32,
 }
 
+// An array with a count beside it: a table's memory is fixed and plain, and the table itself carries the bounds.
 /// The plain memory of a table: the tasks are the first `count` places, and what stands behind them means nothing.
 #[derive(Clone, Copy)]
 pub struct Rows {

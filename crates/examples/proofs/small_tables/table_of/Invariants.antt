@@ -3,5 +3,5 @@ use Rattle.tables.specs.Adding.{tasks_after_adding}
 use Rattle.tables.specs.Tables.{tasks_of}
 use Rattle.examples.proofs.small_tables.table_of.Given as goal
 
-abbrev pub invariant-loop-i : goal.invariant-loop-i
-invariant-loop-i l = tasks_of l.table ≡ fold tasks_after_adding [] (take l.i l.tasks)
+abbrev pub invariant-loop-x : goal.invariant-loop-x
+invariant-loop-x l = tasks_of l.table ≡ fold tasks_after_adding [] (take l.x-index l.tasks)

@@ -1,30 +1,15 @@
-use Rattle.std.proofs.Common.{◌≡◌, ◌<◌, length, get_or, take, set, sym, refl, ap, ◌∙◌, subst, arith}
+use Rattle.std.proofs.Common.{◌≡◌, ◌<◌, length, get_or, take, set, sym, ap, ◌∙◌, subst, arith}
 use lib.Seq.{take-set-lt}
 use Rattle.std.proofs.lemmas.List.{length-set}
 use Rattle.tables.specs.Tasks.{nobody, Each, Timed, Ranked}
 use Rattle.tables.specs.Tables.{tasks_of}
 use Rattle.tables.specs.Hyperperiod.{hyperperiod_of}
-use Rattle.tables.specs.Setting.{with_promotion, set_by, tasks_set_by, OnlyPromotion}
+use Rattle.tables.specs.Setting.{with_promotion, tasks_set_by}
 use Rattle.tables.specs.declared.task.Task.{Task}
 use Rattle.tables.proofs.Multiples.{hyper_set}
 use Rattle.tables.proofs.Counted.{tasks_count, tasks_at}
-use Rattle.tables.proofs.Set.{each_set, fault_no_task, fault_bounds, fault_nothing, only_promotion}
+use Rattle.tables.proofs.Set.{at_some, each_set, fault_nothing}
 use Rattle.tables.proofs.table.Table.set_promotion.Goals as goal
-
-pub returns-then-k-self : goal.returns-then-k-self
-returns-then-k-self c =
-    let t = c.args.self.now in
-    let n = tasks_count t in
-    let e = fault_no_task (tasks_of t) c.args.i c.args.s (omega arith) in
-    record { answer = ap set_by (sym e); tasks_after = ap (tasks_set_by (tasks_of t) c.args.i c.args.s) (sym e); changes_that_promotion_alone = tt; same_if_refused = refl }
-
-pub returns-then-s-self : goal.returns-then-s-self
-returns-then-s-self c =
-    let t = c.args.self.now in
-    let n = tasks_count t in
-    let d = ap (λ (x : Task). x.d) (tasks_at t c.args.i (omega arith)) in
-    let e = fault_bounds (tasks_of t) c.args.i c.args.s (omega arith) (omega arith) in
-    record { answer = ap set_by (sym e); tasks_after = ap (tasks_set_by (tasks_of t) c.args.i c.args.s) (sym e); changes_that_promotion_alone = tt; same_if_refused = refl }
 
 pub invariant_of-self : goal.invariant_of-self
 invariant_of-self c =
@@ -32,8 +17,10 @@ invariant_of-self c =
     let i = c.args.i in
     let ts = tasks_of t in
     let n = tasks_count t in
-    let h : i < length ts = omega arith in
+    let task = at_some ts i c.args.s c.in_ok-task.task (sym c.get.ensures ∙ c.in_ok-task.ensures.ok_part) in
+    let h : i < length ts = task.0 in
     let at = tasks_at t i (omega arith) in
+    let b = ap (λ (y : Task). y.d) task.1 in
     let x = with_promotion (get_or t.rows.tasks i nobody) c.args.s in
     let same : take t.rows.count (set t.rows.tasks i x) ≡ set ts i x = take-set-lt t.rows.count t.rows.tasks i x (omega arith) in
     let d = ap (λ (y : Task). y.d) at in
@@ -46,20 +33,17 @@ invariant_of-self c =
       short = let hp = ap hyperperiod_of same ∙ hyper_set ts i x h (ap (λ (y : Task). y.t) (sym at)) in let short = t.short in omega arith;
     }
 
-pub returns : goal.returns
-returns c =
+pub returns-clause-tasks_after : goal.returns-clause-tasks_after
+returns-clause-tasks_after c =
     let t = c.args.self.now in
     let i = c.args.i in
     let ts = tasks_of t in
     let n = tasks_count t in
+    let task = at_some ts i c.args.s c.in_ok-task.task (sym c.get.ensures ∙ c.in_ok-task.ensures.ok_part) in
     let at = tasks_at t i (omega arith) in
+    let b = ap (λ (y : Task). y.d) task.1 in
     let d = ap (λ (y : Task). y.d) at in
     let same : take t.rows.count (set t.rows.tasks i (with_promotion (get_or t.rows.tasks i nobody) c.args.s)) ≡ set ts i (with_promotion (get_or ts i nobody) c.args.s) =
     take-set-lt t.rows.count t.rows.tasks i _ (omega arith) ∙ ap (λ y. set ts i (with_promotion y c.args.s)) (sym at) in
     let e = fault_nothing ts i c.args.s (omega arith) (omega arith) in
-    record {
-      answer = ap set_by (sym e);
-      tasks_after = same ∙ ap (tasks_set_by ts i c.args.s) (sym e);
-      changes_that_promotion_alone = subst (λ us. OnlyPromotion ts us i c.args.s) (sym same) (only_promotion ts i c.args.s (omega arith));
-      same_if_refused = tt;
-    }
+    same ∙ ap (tasks_set_by ts i c.args.s) (sym e)
