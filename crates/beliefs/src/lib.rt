@@ -12,10 +12,7 @@ mod tests {
     use tables::task::Task;
 
     fn two_tasks(first: Task, second: Task) -> Result<Table, AddRefusal> {
-        let mut table = Table::new();
-        table.add(first)?;
-        table.add(second)?;
-        Ok(table)
+        Table::try_from([first, second].as_slice())
     }
 
     fn verdict(table: &Table) -> Verdict {

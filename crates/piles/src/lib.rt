@@ -19,24 +19,25 @@ mod tests {
 
     // Two tasks that fill the processor, by the promotion times of both.
     fn table(s0: u32, s1: u32) -> Result<Table, AddRefusal> {
-        let mut table = Table::new();
-        table.add(Task {
-            c: 2,
-            d: 4,
-            t: 4,
-            p1: 2,
-            p2: 0,
-            s: s0,
-        })?;
-        table.add(Task {
-            c: 3,
-            d: 6,
-            t: 6,
-            p1: 3,
-            p2: 1,
-            s: s1,
-        })?;
-        Ok(table)
+        let tasks = [
+            Task {
+                c: 2,
+                d: 4,
+                t: 4,
+                p1: 2,
+                p2: 0,
+                s: s0,
+            },
+            Task {
+                c: 3,
+                d: 6,
+                t: 6,
+                p1: 3,
+                p2: 1,
+                s: s1,
+            },
+        ];
+        Table::try_from(tasks.as_slice())
     }
 
     fn miss(task: u32, instant: u32) -> Verdict {

@@ -27,41 +27,35 @@ mod tests {
 
     // Two tasks that fill the processor.
     fn full_table() -> Result<Table, AddRefusal> {
-        let mut table = Table::new();
-        table.add(Task {
-            c: 2,
-            d: 4,
-            t: 4,
-            p1: 2,
-            p2: 0,
-            s: 4,
-        })?;
-        table.add(Task {
-            c: 3,
-            d: 6,
-            t: 6,
-            p1: 3,
-            p2: 1,
-            s: 6,
-        })?;
-        Ok(table)
+        let tasks = [
+            Task {
+                c: 2,
+                d: 4,
+                t: 4,
+                p1: 2,
+                p2: 0,
+                s: 4,
+            },
+            Task {
+                c: 3,
+                d: 6,
+                t: 6,
+                p1: 3,
+                p2: 1,
+                s: 6,
+            },
+        ];
+        Table::try_from(tasks.as_slice())
     }
 
     fn three_tasks() -> Result<Table, AddRefusal> {
-        let mut table = Table::new();
-        table.add(task(21, 28, 0))?;
-        table.add(task(15, 100, 1))?;
-        table.add(task(16, 160, 2))?;
-        Ok(table)
+        let tasks = [task(21, 28, 0), task(15, 100, 1), task(16, 160, 2)];
+        Table::try_from(tasks.as_slice())
     }
 
     fn four_tasks() -> Result<Table, AddRefusal> {
-        let mut table = Table::new();
-        table.add(task(6, 11, 0))?;
-        table.add(task(6, 20, 1))?;
-        table.add(task(4, 46, 2))?;
-        table.add(task(5, 74, 3))?;
-        Ok(table)
+        let tasks = [task(6, 11, 0), task(6, 20, 1), task(4, 46, 2), task(5, 74, 3)];
+        Table::try_from(tasks.as_slice())
     }
 
     fn search_over_fixed(table: &Table) -> Search<Fixed> {

@@ -18,17 +18,9 @@ fn task(c: u32, d: u32, t: u32) -> Task {
     }
 }
 
-fn table_of(tasks: &[Task]) -> Result<Table, Fail> {
-    let mut table = Table::new();
-    for x in tasks {
-        table.add(*x).ok().ok_or("a task is refused")?;
-    }
-    Ok(table)
-}
-
 // The background list of the table with these tasks.
 fn list_of(tasks: &[Task]) -> Result<BackgroundList, Fail> {
-    Ok(own_background_list(&table_of(tasks)?))
+    Ok(own_background_list(&Table::try_from(tasks)?))
 }
 
 // Behind the other, each of the two comes too late.
@@ -82,7 +74,7 @@ fn promoted(c: u32, d: u32, p2: u32) -> Task {
 
 #[test]
 fn promotion_times_by_laxity(rt: HostRuntime) -> Result<(), Fail> {
-    let mut table = table_of(&[promoted(1, 4, 0), promoted(2, 6, 1), promoted(1, 12, 2)])?;
+    let mut table = Table::try_from([promoted(1, 4, 0), promoted(2, 6, 1), promoted(1, 12, 2)].as_slice())?;
     assert_eq!(rt; set_by_laxity(&mut table).is_ok(), true);
     assert_eq!(rt;
         table.tasks(),
@@ -109,7 +101,7 @@ fn promotion_times_by_laxity(rt: HostRuntime) -> Result<(), Fail> {
 #[test]
 fn no_laxity(rt: HostRuntime) -> Result<(), Fail> {
     let tasks = [promoted(3, 4, 0), promoted(3, 6, 1), promoted(3, 8, 2)];
-    let mut table = table_of(&tasks)?;
+    let mut table = Table::try_from(tasks.as_slice())?;
     assert_eq!(rt;
         set_by_laxity(&mut table),
         Err(LaxityRefusal::NoResponse(1))

@@ -6,9 +6,9 @@ use orderings::deadline::Deadline;
 use orderings::fixed::Fixed;
 use orderings::promotion::PromotionLayer;
 use orderings::two_phase::TwoPhase;
-use refusals::kinds::{AddRefusal, Refusal};
+use refusals::kinds::Refusal;
 use schedules::run::Run;
-use schedules::verdict::Verdict;
+use schedules::verdict::{Miss, Verdict};
 use searches::search::{Round, Search};
 use std::io;
 use tables::table::Table;
@@ -31,14 +31,6 @@ fn task(c: u32, t: u32, p1: u32, p2: u32, s: u32) -> Task {
     }
 }
 
-fn table_of(tasks: &[Task]) -> Result<Table, AddRefusal> {
-    let mut table = Table::new();
-    for x in tasks {
-        table.add(*x)?;
-    }
-    Ok(table)
-}
-
 fn promoted(table: &Table) -> PromotionLayer<Fixed> {
     PromotionLayer::new(table, Fixed::new(table))
 }
@@ -46,10 +38,8 @@ fn promoted(table: &Table) -> PromotionLayer<Fixed> {
 fn tell_verdict(rt: &HostRuntime, what: &str, verdict: Verdict) -> io::Result<()> {
     match verdict {
         Verdict::Holds => println!(rt; "{what}: holds"),
-        Verdict::Misses(miss) => {
-            let i = miss.task;
-            let n = miss.instant;
-            println!(rt; "{what}: miss, task {i}, instant {n}")
+        Verdict::Misses(Miss { task, instant }) => {
+            println!(rt; "{what}: miss, task {task}, instant {instant}")
         }
     }
 }
@@ -57,8 +47,7 @@ fn tell_verdict(rt: &HostRuntime, what: &str, verdict: Verdict) -> io::Result<()
 fn tell_promotions(rt: &HostRuntime, table: &Table) -> io::Result<()> {
     print!(rt; "  S")?;
     for x in table.tasks() {
-        let s = x.s;
-        print!(rt; " {s}")?;
+        print!(rt; " {}", x.s)?;
     }
     println!(rt)
 }
@@ -78,22 +67,27 @@ fn tell_round(rt: &HostRuntime, n: u32, round: Round) -> io::Result<()> {
     match round {
         Round::Lowered(i) => println!(rt; "  round {n}: lowered {i}"),
         Round::Held => println!(rt; "  round {n}: held"),
-        Round::Stuck(miss) => {
-            let i = miss.task;
-            let instant = miss.instant;
-            println!(rt; "  round {n}: stuck, task {i}, instant {instant}")
+        Round::Stuck(Miss { task, instant }) => {
+            println!(rt; "  round {n}: stuck, task {task}, instant {instant}")
         }
     }
 }
 
-// The rounds of a search up to its end. Only the last is told, or all.
-fn tell_search(rt: &HostRuntime, what: &str, table: &Table, all: bool) -> io::Result<()> {
+// Which rounds of a search are told.
+#[derive(Clone, Copy, PartialEq, Eq)]
+enum Rounds {
+    All,
+    Last,
+}
+
+// The rounds of a search up to its end.
+fn tell_search(rt: &HostRuntime, what: &str, table: &Table, told: Rounds) -> io::Result<()> {
     println!(rt; "{what}, search over fixed")?;
     let mut search = Search::new(table, Fixed::new(table));
     for n in 1..ROUNDS {
         let round = search.round();
         let ended = !matches!(round, Round::Lowered(_));
-        if all || ended {
+        if told == Rounds::All || ended {
             tell_round(rt, n, round)?;
         }
         if ended {
@@ -156,7 +150,7 @@ fn tell_small(rt: &HostRuntime) -> io::Result<()> {
         Verdict::of(&k, &promoted(&k)),
     )?;
     tell_verdict(rt, "K, deadline", Verdict::of(&k, &Deadline::new(&k)))?;
-    tell_search(rt, "K", &k, true)?;
+    tell_search(rt, "K", &k, Rounds::All)?;
     tell_list(rt, "K", &own_background_list(&k))?;
     if k.set_promotion(1, 5).is_err() {
         println!(rt; "S of task 1 is not set")?;
@@ -182,16 +176,18 @@ fn tell_small(rt: &HostRuntime) -> io::Result<()> {
     )
 }
 
-fn tell_table(rt: &HostRuntime, what: &str, made: Result<Table, AddRefusal>) -> io::Result<Table> {
-    match made {
+// Whether these tasks make a table. A refused one is empty.
+fn tell_table(rt: &HostRuntime, what: &str, tasks: &[Task]) -> io::Result<Table> {
+    match Table::try_from(tasks) {
         Ok(table) => {
-            let h = table.hyperperiod();
-            println!(rt; "{what}: accepted, hyperperiod {h}")?;
+            println!(rt; "{what}: accepted, hyperperiod {}", table.hyperperiod())?;
             Ok(table)
         }
         Err(e) => {
-            let number = Refusal::Adding(e).number();
-            println!(rt; "{what}: refused with number {number}")?;
+            println!(rt;
+                "{what}: refused with number {}",
+                Refusal::Adding(e).number()
+            )?;
             Ok(Table::new())
         }
     }
@@ -202,12 +198,12 @@ fn tell_bounds(rt: &HostRuntime) -> io::Result<()> {
     tell_table(
         rt,
         "periods 1000000 and 999",
-        table_of(&[long, task(1, 999, 0, 0, 0)]),
+        &[long, task(1, 999, 0, 0, 0)],
     )?;
     tell_table(
         rt,
         "periods 1000000 and 1001",
-        table_of(&[long, task(1, 1_001, 0, 0, 0)]),
+        &[long, task(1, 1_001, 0, 0, 0)],
     )?;
     Ok(())
 }
@@ -216,12 +212,12 @@ fn tell_two_phase(rt: &HostRuntime) -> io::Result<()> {
     let four = tell_table(
         rt,
         "(13,29) (17,47) (4,89) (28,193)",
-        table_of(&[
+        &[
             task(13, 29, 4, 0, 13),
             task(17, 47, 5, 1, 17),
             task(4, 89, 7, 2, 42),
             task(28, 193, 6, 3, 139),
-        ]),
+        ],
     )?;
     tell_verdict(
         rt,
@@ -231,11 +227,11 @@ fn tell_two_phase(rt: &HostRuntime) -> io::Result<()> {
     let three = tell_table(
         rt,
         "(6,13) (8,18) (6,86)",
-        table_of(&[
+        &[
             task(6, 13, 3, 0, 13),
             task(8, 18, 4, 1, 17),
             task(6, 86, 5, 2, 84),
-        ]),
+        ],
     )?;
     tell_verdict(
         rt,
@@ -248,24 +244,24 @@ fn tell_searches(rt: &HostRuntime) -> io::Result<()> {
     let three = tell_table(
         rt,
         "(21,28) (15,100) (16,160)",
-        table_of(&[
+        &[
             task(21, 28, 0, 0, 28),
             task(15, 100, 1, 1, 100),
             task(16, 160, 2, 2, 160),
-        ]),
+        ],
     )?;
-    tell_search(rt, "  the same", &three, false)?;
+    tell_search(rt, "  the same", &three, Rounds::Last)?;
     let four = tell_table(
         rt,
         "(6,11) (6,20) (4,46) (5,74)",
-        table_of(&[
+        &[
             task(6, 11, 0, 0, 5),
             task(6, 20, 1, 1, 3),
             task(4, 46, 2, 2, 27),
             task(5, 74, 3, 3, 51),
-        ]),
+        ],
     )?;
-    tell_search(rt, "  the same", &four, false)?;
+    tell_search(rt, "  the same", &four, Rounds::Last)?;
     tell_verdict(
         rt,
         "  with S 5, 3, 27, 51, promotion over fixed",
