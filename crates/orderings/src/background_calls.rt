@@ -55,11 +55,6 @@ impl BackgroundList {
     pub(crate) fn place(&self, number: u32) -> Option<usize>
         ensures { result ≡ place_in (numbers_of self.now) number }
     {
-        for k in 0..self.places.count {
-            if self.places.numbers[k] == number {
-                return Some(k);
-            }
-        }
-        None
+        self.numbers().iter().position(|x| *x == number)
     }
 }
