@@ -5,7 +5,7 @@ use Rattle.std.proofs.lemmas.Bool.Decides.{nat_tests}
 use Rattle.std.proofs.lemmas.Int.{ints}
 use Rattle.tables.specs.declared.task.Task.{Task}
 use Rattle.orderings.specs.Meaning.{Meaning, Exclusive, Transitive}
-use Rattle.orderings.specs.Keys.{smaller_key, by_key, by_number, key_of}
+use Rattle.orderings.specs.Keys.{smaller_key, by_key, by_number}
 use Rattle.orderings.specs.Promotion.{promotion_key, promotion}
 use Rattle.orderings.specs.Laws.{Lawful, unless_same_lawful}
 
@@ -38,9 +38,8 @@ by_number_exclusive i a j b hi ha hj hb ne = grind (arith, nat_tests)
 by_number_transitive : Transitive by_number
 by_number_transitive i a j b k c hi ha hj hb hk hc ij jk ik p q = grind (arith, nat_tests)
 
--- whatever the jobs of a table count with
-pub value_then_number : (value : Task → ℕ → ℤ) (ts : List Task) → Lawful (by_key (key_of value ts) by_number)
-value_then_number value ts = by_key_lawful (key_of value ts) by_number by_number_exclusive by_number_transitive
+pub key_then_number : (key : ℕ → ℕ → Option ℤ) → Lawful (by_key key by_number)
+key_then_number key = by_key_lawful key by_number by_number_exclusive by_number_transitive
 
 pub promotion_lawful : (ts : List Task) (m : Meaning) → Exclusive m → Transitive m → Lawful (promotion ts m)
 promotion_lawful ts = by_key_lawful (promotion_key ts)

@@ -1,9 +1,10 @@
 -- Where a number stands in a list: what a search finds, and that different numbers stand at different places.
-use Rattle.std.specs.Prelude.{◌≡◌, ℕ, ◌+◌, ◌<◌, ◌≤◌, Bool, true, false, not, ◌&&◌, ◌≢◌, List, [], ◌∷◌, ◌++◌, length, take, is_some, Some, None, position, ◌==◌, nat_lt, slice_index, slice_set}
+use Rattle.std.specs.Prelude.{◌≡◌, ℕ, ◌+◌, ◌<◌, ◌≤◌, Bool, true, false, not, ◌&&◌, ◌≢◌, List, [], ◌∷◌, ◌++◌, length, take, is_some, Some, position, ◌==◌, slice_index, slice_set}
 use Rattle.std.specs.List.{position_or_len}
 use Rattle.std.proofs.Common.{sym, ap, ◌∙◌, inl, inr, arith}
-use Rattle.std.proofs.lemmas.Bool.{cond-true, eqb-true, eqb-false, lt-ltb, cases_lt}
+use Rattle.std.proofs.lemmas.Bool.{eqb-true, eqb-false, lt-ltb, cases_lt}
 use Rattle.std.proofs.lemmas.Iterator.Adapters.{position_from-zero}
+use Rattle.std.proofs.lemmas.Bool.Decides.{nat_tests}
 use Rattle.std.proofs.lemmas.List.Quantifiers.{position-Some}
 use Rattle.std.proofs.lemmas.List.Sums.{fails_before_first}
 use Rattle.std.proofs.lemmas.List.{get_or_append_left, get_or_push, get_or-take, length_push, length-take-le, take_more_set}
@@ -28,10 +29,8 @@ nowhere : (xs : List ℕ) (n : ℕ) → is_some (place_in xs n) ≡ false → (k
 nowhere xs n e k h =
     let test : ℕ → Bool = λ x. x == n in
     let none : is_some (position test xs) ≡ false = ap is_some (sym (place_position xs n)) ∙ e in
-    elim (cases_lt (position_or_len test xs) (length xs)) [
-      | inl g ↦ let some = ap is_some (cond-true (nat_lt (position_or_len test xs) (length xs)) (Some (position_or_len test xs)) None (lt-ltb _ _ g)) in let w : true ≡ false = sym some ∙ none in absurd (cc)
-      | inr g ↦ eqb-false (slice_index xs k) n (fails_before_first test xs k 0 (omega arith))
-    ]
+    let beyond : length xs ≤ position_or_len test xs = grind (arith, nat_tests) in
+    eqb-false (slice_index xs k) n (fails_before_first test xs k 0 (omega arith))
 
 -- one more number, that the list does not have
 pub none_twice_push : (xs : List ℕ) (n : ℕ) → NoneTwice xs → is_some (place_in xs n) ≡ false → NoneTwice (xs ++ n ∷ [])

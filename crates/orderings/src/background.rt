@@ -25,6 +25,7 @@ impl<O> BackgroundLayer<O> {
 }
 
 // Of two places of different numbers: no place before a place, the later before the earlier; two without as `rest` says.
+// A function for this and `smaller_key` would take the comparison as a closure, which is no shorter than the four cases.
 fn stands_later(x: Option<usize>, y: Option<usize>, rest: bool) -> bool
     ensures { result ≡ stands_later x y rest }
 {

@@ -2,7 +2,7 @@ ghost use Rattle.std.specs.Prelude.{◌≡◌, ℕ, ℤ};
 ghost use Rattle.tables.specs.declared.task.Task.{Task};
 ghost use Rattle.tables.specs.Tables.{tasks_of};
 ghost use Rattle.orderings.specs.Keys.{key_of, by_key, by_number};
-ghost use Rattle.orderings.specs.Keyed.{value_then_number};
+ghost use Rattle.orderings.specs.Keyed.{key_then_number};
 
 use crate::keys::smaller_key;
 use crate::ordering::Ordering;
@@ -51,11 +51,11 @@ impl<K: Key> Keyed<K> {
 impl<K: Key> Ordering for Keyed<K> {
     ghost ahead = { λ o. by_key (key_of K.value (tasks_of o.table)) by_number };
 
-    ghost exclusive = { λ o. (value_then_number K.value (tasks_of o.table)).exclusive };
+    ghost exclusive = { λ o. (key_then_number (key_of K.value (tasks_of o.table))).exclusive };
 
-    ghost transitive = { λ o. (value_then_number K.value (tasks_of o.table)).transitive };
+    ghost transitive = { λ o. (key_then_number (key_of K.value (tasks_of o.table))).transitive };
 
-    ghost irreflexive = { λ o. (value_then_number K.value (tasks_of o.table)).irreflexive };
+    ghost irreflexive = { λ o. (key_then_number (key_of K.value (tasks_of o.table))).irreflexive };
 
     fn is_ahead(&self, i: u32, a: u32, j: u32, b: u32) -> bool {
         i != j && smaller_key(self.key(i, a), i, self.key(j, b), j, i < j)

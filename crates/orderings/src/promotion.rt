@@ -52,10 +52,7 @@ impl<O> PromotionLayer<O> {
 fn key(table: &Table, i: u32, a: u32) -> Option<i64>
     ensures { result ≡ promotion_key (tasks_of table.now) i a }
 {
-    table
-        .get(i)
-        .filter(|t| t.s <= a)
-        .map(|t| i64::from(t.p2))
+    table.get(i).filter(|t| t.s <= a).map(|t| i64::from(t.p2))
 }
 
 impl<O: Ordering> Ordering for PromotionLayer<O> {
