@@ -1,5 +1,5 @@
 -- What the scan of `first_in_order` finds precedes all others.
-use Rattle.std.proofs.Common.{◌≡◌, ℕ, ◌<◌, Bool, true, false, cond, not, ◌≢◌, List, [], ◌∷◌, length, Some, None, fold, sym, refl, ap, ◌∙◌, subst, inl, inr, arith, Bor, map, MatchOption, Option}
+use Rattle.std.proofs.Common.{◌≡◌, ℕ, ◌<◌, Bool, true, false, cond, not, ◌≢◌, List, [], ◌∷◌, length, Some, None, fold, sym, refl, ap, ◌∙◌, subst, inl, inr, Bor, map, MatchOption, Option}
 use Rattle.std.specs.List.{AllByRecursion}
 use Rattle.std.specs.Option.{option_map}
 use Rattle.std.specs.Iterator.{ActsAsOnTwo}
@@ -83,7 +83,7 @@ scanned_in lt b y (x ∷ xs) e =
     ]) e
 
 pub first_in : {X : Type 0} (lt : X → X → Bool) (y : X) (xs : List X) → first_in_order lt xs ≡ Some y → In y xs
-first_in lt y [] e = let z : ◌≡◌ {A = ℕ} 0 1 = cc in absurd (let w : ⊥ = omega arith in w)
+first_in lt y [] e = absurd (cc)
 first_in lt y (x ∷ xs) e = scanned_in lt x y xs e
 
 -- the scan of lent items: the better of two

@@ -7,7 +7,7 @@ use Rattle.std.proofs.lemmas.Iterator.Adapters.{position_from-zero}
 use Rattle.std.proofs.lemmas.Bool.Decides.{nat_tests}
 use Rattle.std.proofs.lemmas.List.Quantifiers.{position-Some}
 use Rattle.std.proofs.lemmas.List.Sums.{fails_before_first}
-use Rattle.std.proofs.lemmas.List.{get_or_append_left, get_or_push, get_or-take, length_push, length-take-le, take_more_set}
+use Rattle.std.proofs.lemmas.List.{get_or_append_left, get_or_push, length_push, length-take-le, take_more_set}
 use Rattle.orderings.specs.Places.{listed, NoneTwice, place_in}
 use Rattle.orderings.specs.BackgroundList.{numbers_of, takes_number}
 use Rattle.orderings.specs.declared.background_places.Places.{Places}
@@ -50,9 +50,6 @@ numbers_count l =
     let wide = l.wide in
     let few = l.few in
     length-take-le l.places.count l.places.numbers (omega arith)
-
-pub numbers_at : (l : BackgroundList) (k : ℕ) → k < l.places.count → slice_index (numbers_of l) k ≡ slice_index l.places.numbers k
-numbers_at l k h = get_or-take l.places.count l.places.numbers k 0 h
 
 -- a number written behind the others stands at the end of the list
 pub pushed : (l : BackgroundList) (p : Places) (n : ℕ) → l.places.count < 32 → p.numbers ≡ slice_set l.places.numbers l.places.count n → p.count ≡ l.places.count + 1
