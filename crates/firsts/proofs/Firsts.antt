@@ -1,9 +1,10 @@
 -- What the scan of `first_in_order` finds precedes all others.
-use Rattle.std.proofs.Common.{◌≡◌, ℕ, ◌+◌, ◌<◌, Bool, true, false, cond, not, ◌≢◌, List, [], ◌∷◌, length, get_or, take, Some, None, fold, sym, refl, ap, ◌∙◌, subst, inl, inr, arith}
+use Rattle.std.proofs.Common.{◌≡◌, ℕ, ◌<◌, Bool, true, false, cond, not, ◌≢◌, List, [], ◌∷◌, length, Some, None, fold, sym, refl, ap, ◌∙◌, subst, inl, inr, Bor, map, MatchOption, Option}
 use Rattle.std.specs.List.{AllByRecursion}
-use Rattle.std.proofs.lemmas.List.{get_or_default}
-use Rattle.std.proofs.lemmas.Bool.{cond-true, cond-false}
-use Rattle.std.proofs.lemmas.List.Sums.{fold_more}
+use Rattle.std.specs.Option.{option_map}
+use Rattle.std.specs.Iterator.{ActsAsOnTwo}
+use denote.Param.Members.{Mut}
+use Rattle.std.proofs.lemmas.List.{nil_from_length}
 use Rattle.firsts.specs.First.{better, first_in_order, In, Distinct, ExclusiveOn, TransitiveOn, IsFirst}
 
 pub all_in : {X : Type 0} (P : X → Type 0) (xs : List X) (y : X) → AllByRecursion P xs → In y xs → P y
@@ -82,27 +83,27 @@ scanned_in lt b y (x ∷ xs) e =
     ]) e
 
 pub first_in : {X : Type 0} (lt : X → X → Bool) (y : X) (xs : List X) → first_in_order lt xs ≡ Some y → In y xs
-first_in lt y [] e = let z : ◌≡◌ {A = ℕ} 0 1 = cc in absurd (let w : ⊥ = omega arith in w)
+first_in lt y [] e = absurd (cc)
 first_in lt y (x ∷ xs) e = scanned_in lt x y xs e
 
--- the scan begins with the first item
-pub first_one : {X : Type 0} (lt : X → X → Bool) (xs : List X) (d : X) → 0 < length xs → Some (get_or xs 0 d) ≡ first_in_order lt (take 1 xs)
-first_one lt [] d h = absurd (let z : ⊥ = omega arith in z)
-first_one lt (y ∷ ys) d h = refl
+-- the scan of lent items: the better of two
+module _ {X : Type 0} (lt : X → X → Bool) where
+  abbrev pub better_lent : Bor X → Bor X → Bor X
+  better_lent b x = cond (lt x.now b.now) x b
 
--- one turn of the scan: x stands at i, and the best so far, y, at b
-module _ {X : Type 0} (lt : X → X → Bool) (xs : List X) (i b : ℕ) (x y : X) (i-in : i < length xs) (b-in : b < length xs)
-    (x-at : x ≡ get_or xs i x) (y-at : y ≡ get_or xs b y) (so_far : (d : X) → Some (get_or xs b d) ≡ first_in_order lt (take i xs)) where
-  step : better lt (Some y) x ≡ first_in_order lt (take (i + 1) xs)
-  step =
-      ap (λ u. better lt u x) (ap Some y-at ∙ so_far y)
-      ∙ ap (better lt (first_in_order lt (take i xs))) x-at
-      ∙ sym (fold_more (better lt) None xs i x i-in)
+  better_now : (b x : Bor X) → better lt (Some b.now) x.now ≡ Some (better_lent b x).now
+  better_now b x = elim (lt x.now b.now) as (λ v. ◌≡◌ {A = Option X} (Some (cond v x.now b.now)) (Some (cond v x b).now)) [ true ↦ refl | false ↦ refl ]
 
-  pub first_takes : (t : Bool) → t ≡ lt x y → t ≡ true → (d : X) → Some (get_or xs i d) ≡ first_in_order lt (take (i + 1) xs)
-  first_takes t e f d =
-      ap Some (get_or_default xs i d x i-in ∙ sym x-at ∙ sym (cond-true (lt x y) x y (sym e ∙ f))) ∙ step
+  scanned : (b : Bor X) (xs : List (Bor X)) → fold (better lt) (Some b.now) (map (λ x. x.now) xs) ≡ Some (fold better_lent b xs).now
+  scanned b [] = refl
+  scanned b (x ∷ xs) = ap (λ o. fold (better lt) o (map (λ y. y.now) xs)) (better_now b x) ∙ scanned (better_lent b x) xs
 
-  pub first_keeps : (t : Bool) → t ≡ lt x y → t ≡ false → (d : X) → Some (get_or xs b d) ≡ first_in_order lt (take (i + 1) xs)
-  first_keeps t e f d =
-      ap Some (get_or_default xs b d y b-in ∙ sym y-at ∙ sym (cond-false (lt x y) x y (sym e ∙ f))) ∙ step
+  -- what `reduce` finds among them
+  pub first_reduced : {F : Type 0} (items : List X) (g : Mut F (Bor X × (Bor X × Unit {0})) (Bor X)) (f : F) (r : Option (Bor X)) (n : ℕ) (lent : List (Bor X))
+      → n ≡ length lent → map (λ x. x.now) lent ≡ items
+      → MatchOption r (n ≡ 0) (λ y. (0 < n) × ((x : Bor X) × (xs : List (Bor X)) × (lent ≡ x ∷ xs) × ((h : Bor X → Bor X → Bor X) → ActsAsOnTwo g f h → y ≡ fold h x xs)))
+      → ActsAsOnTwo g f better_lent → option_map (λ x. x.now) r ≡ first_in_order lt items
+  first_reduced items g f None n lent long now found acts =
+      ap (first_in_order lt) (sym (ap (map (λ x. x.now)) (nil_from_length lent (sym long ∙ found))) ∙ now)
+  first_reduced items g f (Some y) n lent long now found acts =
+      ap (λ z. Some z.now) (found.1.3 better_lent acts) ∙ sym (scanned found.1.0 found.1.1) ∙ ap (first_in_order lt) (sym (ap (map (λ x. x.now)) found.1.2) ∙ now)

@@ -5,7 +5,7 @@ use Rattle.firsts.specs.Lowest.{lowest}
 
 -- the lowest of one number more
 pub lowest_kept : (p : ℕ → Bool) (a n i : ℕ) → lowest p a n ≡ Some i → lowest p a (suc n) ≡ Some i
-lowest_kept p a zero i e = let z : ◌≡◌ {A = ℕ} 0 1 = cc in absurd (let w : ⊥ = omega arith in w)
+lowest_kept p a zero i e = absurd (cc)
 lowest_kept p a (suc n) i e =
     let P : Bool → Type 0 = λ v. cond v (Some a) (lowest p (a + 1) n) ≡ Some i → cond v (Some a) (lowest p (a + 1) (suc n)) ≡ Some i in
     (elim (p a) as P [ true ↦ λ h. h | false ↦ λ h. lowest_kept p (a + 1) n i h ]) e
@@ -20,7 +20,7 @@ lowest_found p a zero k at e here = let same : k ≡ a = omega arith in cond-tru
 lowest_found p a (suc n) k at e here =
     let P : Bool → Type 0 = λ v. cond v (Some a) (lowest p (a + 1) n) ≡ None → cond v (Some a) (lowest p (a + 1) (suc n)) ≡ Some k in
     (elim (p a) as P [
-      | true ↦ λ h. let z : ◌≡◌ {A = ℕ} 0 1 = cc in absurd (let w : ⊥ = omega arith in w)
+      | true ↦ λ h. absurd (cc)
       | false ↦ λ h. lowest_found p (a + 1) n k (omega arith) h here
     ]) e
 
@@ -79,7 +79,7 @@ lowest_none_fails p a n e =
 
 -- what is found is one of the numbers looked at
 pub lowest_range : (p : ℕ → Bool) (a n i : ℕ) → lowest p a n ≡ Some i → (a ≤ i) × (i < a + n)
-lowest_range p a zero i e = let z : ◌≡◌ {A = ℕ} 0 1 = cc in absurd (let w : ⊥ = omega arith in w)
+lowest_range p a zero i e = absurd (cc)
 lowest_range p a (suc n) i e =
     let P : Bool → Type 0 = λ v. cond v (Some a) (lowest p (a + 1) n) ≡ Some i → (a ≤ i) × (i < a + suc n) in
     (elim (p a) as P [

@@ -17,14 +17,7 @@ pub fn first<'a, T, R: Order<T>>(items: &'a [T], order: &R) -> Option<&'a T>
     ensures value { option_map (λ x. x.now) result ≡ first_in_order (R.precedes order.now) items.now }
     ensures precedes_all_others { Distinct items.now → ExclusiveOn (R.precedes order.now) items.now → TransitiveOn (R.precedes order.now) items.now → IsFirst (R.precedes order.now) items.now (option_map (λ x. x.now) result) }
 {
-    if items.is_empty() {
-        return None;
-    }
-    let mut best = 0;
-    for i in 1..items.len() {
-        if order.is_before(&items[i], &items[best]) {
-            best = i;
-        }
-    }
-    Some(&items[best])
+    items
+        .iter()
+        .reduce(|best, x| if order.is_before(x, best) { x } else { best })
 }

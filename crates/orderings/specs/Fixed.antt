@@ -1,14 +1,16 @@
 -- The fixed-priority ordering.
 use Rattle.std.specs.Prelude.{ℕ, List, ℤ, pos, Option}
-use Rattle.std.specs.Option.{option_map}
 use Rattle.tables.specs.declared.task.Task.{Task}
-use Rattle.tables.specs.Tables.{task_at}
 use Rattle.orderings.specs.Meaning.{Meaning}
-use Rattle.orderings.specs.Keys.{by_key, by_number}
+use Rattle.orderings.specs.Keys.{by_key, by_number, key_of}
 
--- P1; a number that is not in the table has no key
+-- what a job counts with: P1 at every age
+abbrev pub fixed_value : Task → ℕ → ℤ
+fixed_value t a = pos t.p1
+
+-- a number that is not in the table has no key; at age 0 as at every other
 abbrev pub fixed_key : List Task → ℕ → Option ℤ
-fixed_key ts i = option_map (λ t. pos t.p1) (task_at ts i)
+fixed_key ts i = key_of fixed_value ts i 0
 
 -- the smaller P1 is ahead, then the lower task number; numbers not in the table stand behind, in their order
 abbrev pub fixed : List Task → Meaning

@@ -1,10 +1,12 @@
 -- An ordering by key over a lawful ordering of what has no key keeps the laws.
-use Rattle.std.specs.Prelude.{◌≡◌, ℕ, Bool, true, not, ◌≢◌, ℤ, Some, None, Option, refl}
+use Rattle.std.specs.Prelude.{◌≡◌, ℕ, Bool, true, not, ◌≢◌, List, ℤ, Some, None, Option, refl}
 use Rattle.std.proofs.Common.{arith}
 use Rattle.std.proofs.lemmas.Bool.Decides.{nat_tests}
 use Rattle.std.proofs.lemmas.Int.{ints}
+use Rattle.tables.specs.declared.task.Task.{Task}
 use Rattle.orderings.specs.Meaning.{Meaning, Exclusive, Transitive}
 use Rattle.orderings.specs.Keys.{smaller_key, by_key, by_number}
+use Rattle.orderings.specs.Promotion.{promotion_key, promotion}
 use Rattle.orderings.specs.Laws.{Lawful, unless_same_lawful}
 
 one_smaller : (x y : Option ℤ) (i j : ℕ) (r s : Bool) → i ≢ j → s ≡ not r → smaller_key y j x i s ≡ not (smaller_key x i y j r)
@@ -38,3 +40,6 @@ by_number_transitive i a j b k c hi ha hj hb hk hc ij jk ik p q = grind (arith, 
 
 pub key_then_number : (key : ℕ → ℕ → Option ℤ) → Lawful (by_key key by_number)
 key_then_number key = by_key_lawful key by_number by_number_exclusive by_number_transitive
+
+pub promotion_lawful : (ts : List Task) (m : Meaning) → Exclusive m → Transitive m → Lawful (promotion ts m)
+promotion_lawful ts = by_key_lawful (promotion_key ts)

@@ -1,5 +1,6 @@
 -- Lists of numbers, and where a number stands in one.
-use Rattle.std.specs.Prelude.{ℕ, ◌+◌, ◌<◌, cond, ◌≢◌, List, [], ◌∷◌, length, take, Some, None, Option, ◌==◌, slice_index}
+use Rattle.std.specs.Prelude.{ℕ, ◌<◌, ◌≢◌, List, length, take, Option, ◌==◌, slice_index}
+use Rattle.std.specs.List.{position_from}
 use Rattle.orderings.specs.declared.background_places.Places.{Places}
 
 -- the numbers in use
@@ -11,8 +12,7 @@ NoneTwice xs = (k l : ℕ) → k < l → l < length xs → slice_index xs k ≢ 
 
 -- where a number first stands in a list whose places are counted from k
 abbrev pub place_from : ℕ → List ℕ → ℕ → Option ℕ
-place_from k [] n = None
-place_from k (x ∷ xs) n = cond (x == n) (Some k) (place_from (k + 1) xs n)
+place_from k xs n = position_from (λ x. x == n) k xs
 
 -- the place of a number in a list, if it is there
 abbrev pub place_in : List ℕ → ℕ → Option ℕ

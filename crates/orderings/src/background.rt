@@ -1,7 +1,6 @@
 ghost use Rattle.std.specs.Prelude.{◌≡◌};
 ghost use Rattle.orderings.specs.Background.{background, stands_later};
 ghost use Rattle.orderings.specs.BackgroundList.{numbers_of};
-ghost use Rattle.orderings.specs.BackgroundList as SpecsBackgroundList;
 ghost use Rattle.orderings.specs.Backed.{background_lawful};
 
 use crate::background_list::BackgroundList;
@@ -26,6 +25,7 @@ impl<O> BackgroundLayer<O> {
 }
 
 // Of two places of different numbers: no place before a place, the later before the earlier; two without as `rest` says.
+// A function for this and `smaller_key` would take the comparison as a closure, which is no shorter than the four cases.
 fn stands_later(x: Option<usize>, y: Option<usize>, rest: bool) -> bool
     ensures { result ≡ stands_later x y rest }
 {
@@ -38,19 +38,13 @@ fn stands_later(x: Option<usize>, y: Option<usize>, rest: bool) -> bool
 }
 
 impl<O: Ordering> Ordering for BackgroundLayer<O> {
-    ghost ahead = { λ o. background (numbers_of o.list) (O.Ordering.ahead o.lower) };
+    ghost ahead = { λ o. background (numbers_of o.list) (O.ahead o.lower) };
 
-    ghost exclusive = { λ o.
-        let lower = O.Ordering in
-        (background_lawful (SpecsBackgroundList.numbers_of o.list) _ (lower.exclusive o.lower) (lower.transitive o.lower)).exclusive };
+    ghost exclusive = { λ o. (background_lawful (numbers_of o.list) _ (O.exclusive o.lower) (O.transitive o.lower)).exclusive };
 
-    ghost transitive = { λ o.
-        let lower = O.Ordering in
-        (background_lawful (SpecsBackgroundList.numbers_of o.list) _ (lower.exclusive o.lower) (lower.transitive o.lower)).transitive };
+    ghost transitive = { λ o. (background_lawful (numbers_of o.list) _ (O.exclusive o.lower) (O.transitive o.lower)).transitive };
 
-    ghost irreflexive = { λ o.
-        let lower = O.Ordering in
-        (background_lawful (SpecsBackgroundList.numbers_of o.list) _ (lower.exclusive o.lower) (lower.transitive o.lower)).irreflexive };
+    ghost irreflexive = { λ o. (background_lawful (numbers_of o.list) _ (O.exclusive o.lower) (O.transitive o.lower)).irreflexive };
 
     fn is_ahead(&self, i: u32, a: u32, j: u32, b: u32) -> bool {
         i != j

@@ -29,12 +29,12 @@ impl BackgroundList {
     pub fn numbers(&self) -> &[u32]
         ensures { result.now ≡ numbers_of self.now }
     {
-        let n = self.places.count;
-        &self.places.numbers[0..n]
+        &self.places.numbers[..self.places.count]
     }
 
     /// Writes a number at the list's end and answers true. Answers false and leaves the list as it was where the number
     /// is in it already or 32 are: an ordinary answer, not a refusal.
+    // the project asks for a `bool` here, since nothing is refused
     pub fn take(&mut self, number: u32) -> bool
         ensures answer { result ≡ takes_number (numbers_of self.old) number }
         ensures numbers_after { numbers_of self.new ≡ numbers_after_taking (numbers_of self.old) number }
@@ -55,11 +55,6 @@ impl BackgroundList {
     pub(crate) fn place(&self, number: u32) -> Option<usize>
         ensures { result ≡ place_in (numbers_of self.now) number }
     {
-        for k in 0..self.places.count {
-            if self.places.numbers[k] == number {
-                return Some(k);
-            }
-        }
-        None
+        self.numbers().iter().position(|x| *x == number)
     }
 }

@@ -2,6 +2,7 @@ ghost use Rattle.std.specs.Prelude.{◌≡◌, ◌+◌, ◌<◌, slice_set};
 
 /// The plain memory of a background list: its numbers are the first `count` places, and what stands behind them means
 /// nothing.
+// The libraries allocate nothing: an array and a count, whose bounds the list's own struct carries.
 #[derive(Clone, Copy)]
 pub struct Places {
     pub numbers: [u32; 32],

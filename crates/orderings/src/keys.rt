@@ -7,7 +7,7 @@ pub(crate) fn smaller_key(x: Option<i64>, i: u32, y: Option<i64>, j: u32, rest: 
     ensures { result ≡ smaller_key x i y j rest }
 {
     match (x, y) {
-        (Some(x), Some(y)) => x < y || (!(y < x) && i < j),
+        (Some(x), Some(y)) => (x, i) < (y, j),
         (Some(_), None) => true,
         (None, Some(_)) => false,
         (None, None) => rest,

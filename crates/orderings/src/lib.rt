@@ -6,6 +6,7 @@ pub mod background_list;
 pub mod background_places;
 pub mod deadline;
 pub mod fixed;
+pub mod keyed;
 mod keys;
 pub mod ordering;
 pub mod promotion;

@@ -2,9 +2,7 @@ ghost use Rattle.std.specs.Prelude.{◌≡◌, OnErr};
 ghost use Rattle.tables.specs.Tables.{tasks_of};
 ghost use Rattle.tables.specs.Setting.{set_answer, tasks_after_setting};
 ghost use Rattle.orderings.specs.Promotion.{promotion_key, promotion};
-ghost use Rattle.tables.specs.Tables;
-ghost use Rattle.orderings.specs.Promotion;
-ghost use Rattle.orderings.specs.Keyed.{by_key_lawful};
+ghost use Rattle.orderings.specs.Keyed.{promotion_lawful};
 
 use crate::keys::smaller_key;
 use crate::ordering::Ordering;
@@ -54,26 +52,17 @@ impl<O> PromotionLayer<O> {
 fn key(table: &Table, i: u32, a: u32) -> Option<i64>
     ensures { result ≡ promotion_key (tasks_of table.now) i a }
 {
-    match table.get(i) {
-        Some(t) if t.s <= a => Some(i64::from(t.p2)),
-        _ => None,
-    }
+    table.get(i).filter(|t| t.s <= a).map(|t| i64::from(t.p2))
 }
 
 impl<O: Ordering> Ordering for PromotionLayer<O> {
-    ghost ahead = { λ o. promotion (tasks_of o.table) (O.Ordering.ahead o.lower) };
+    ghost ahead = { λ o. promotion (tasks_of o.table) (O.ahead o.lower) };
 
-    ghost exclusive = { λ o.
-        let lower = O.Ordering in
-        (by_key_lawful (Promotion.promotion_key (Tables.tasks_of o.table)) _ (lower.exclusive o.lower) (lower.transitive o.lower)).exclusive };
+    ghost exclusive = { λ o. (promotion_lawful (tasks_of o.table) _ (O.exclusive o.lower) (O.transitive o.lower)).exclusive };
 
-    ghost transitive = { λ o.
-        let lower = O.Ordering in
-        (by_key_lawful (Promotion.promotion_key (Tables.tasks_of o.table)) _ (lower.exclusive o.lower) (lower.transitive o.lower)).transitive };
+    ghost transitive = { λ o. (promotion_lawful (tasks_of o.table) _ (O.exclusive o.lower) (O.transitive o.lower)).transitive };
 
-    ghost irreflexive = { λ o.
-        let lower = O.Ordering in
-        (by_key_lawful (Promotion.promotion_key (Tables.tasks_of o.table)) _ (lower.exclusive o.lower) (lower.transitive o.lower)).irreflexive };
+    ghost irreflexive = { λ o. (promotion_lawful (tasks_of o.table) _ (O.exclusive o.lower) (O.transitive o.lower)).irreflexive };
 
     fn is_ahead(&self, i: u32, a: u32, j: u32, b: u32) -> bool {
         i != j
