@@ -1,8 +1,8 @@
 -- The loop that takes one task after the other from the set of all tasks.
-use Rattle.std.proofs.Common.{◌≡◌, ℕ, zero, suc, ◌+◌, ◌-◌, ◌<◌, ◌≤◌, Bool, true, false, List, [], ◌∷◌, ◌++◌, length, take, set, replicate, is_some, Some, None, Option, sym, refl, ap, ◌∙◌, inl, inr, arith}
+use Rattle.std.proofs.Common.{◌≡◌, ℕ, suc, ◌+◌, ◌-◌, ◌<◌, ◌≤◌, Bool, true, false, List, [], ◌∷◌, ◌++◌, length, is_some, Some, None, Option, sym, refl, ap, ◌∙◌, inl, inr, arith}
 use Rattle.std.specs.List.{AllByRecursion}
 use Rattle.std.proofs.lemmas.Bool.{cases_eq, cond-false, ne_eqb, both_ways}
-use Rattle.std.proofs.lemmas.List.{append-nil, append_assoc, length_push, take-replicate, get_or-set_other}
+use Rattle.std.proofs.lemmas.List.{append-nil, append_assoc, length_push, get_or-set_other}
 use Rattle.std.proofs.ByRecursion.{All-push, All-weaker}
 use Rattle.tables.specs.declared.task.Task.{Task}
 use Rattle.orderings.specs.Places.{place_from}
@@ -12,21 +12,6 @@ use Rattle.viability.specs.declared.candidate.Candidate.{Candidate}
 use Rattle.viability.specs.Viable.{is_in}
 use Rattle.viability.specs.OwnList.{next_taken, without, taken_from, everyone, own_list}
 use Rattle.viability.proofs.Owned.{next_is, left_out}
-
--- the first n flags, after one of them is cleared
-pub front_without : (n : ℕ) (flags : List Bool) (k : ℕ) → take n (set flags k false) ≡ without (take n flags) k
-front_without zero flags k = refl
-front_without (suc n) [] k = refl
-front_without (suc n) (f ∷ fs) zero = refl
-front_without (suc n) (f ∷ fs) (suc k) = ap (λ u. f ∷ u) (front_without n fs k)
-
-all_set : (ts : List Task) → replicate (length ts) true ≡ everyone ts
-all_set [] = refl
-all_set (t ∷ ts) = ap (λ u. true ∷ u) (all_set ts)
-
--- all flags of a table's tasks
-pub front_everyone : (ts : List Task) (n : ℕ) → length ts ≤ n → take (length ts) (replicate n true) ≡ everyone ts
-front_everyone ts n h = take-replicate (length ts) n true h ∙ all_set ts
 
 -- a number stands in no list of numbers that are out of a set that it is in
 not_listed : (members : List Bool) (k : ℕ) (xs : List ℕ) (n : ℕ) → AllByRecursion (λ x. is_in members x ≡ false) xs → is_in members n ≡ true → is_some (place_from k xs n) ≡ false

@@ -2,13 +2,14 @@ use Rattle.std.proofs.Common.{◌≡◌, ℕ, ◌+◌, Bool, leb, get_or, sym, a
 use Rattle.std.proofs.lemmas.Bool.{le-leb, lt-leb}
 use Rattle.tables.specs.Tasks.{nobody}
 use Rattle.viability.specs.Viable.{load}
+use Rattle.viability.specs.TaskSets.{members_of}
 use Rattle.viability.proofs.Searched.{search_found, search_passed}
-use Rattle.viability.proofs.response.response.Goals as goal
+use Rattle.viability.proofs.task_set.TaskSet.response.Goals as goal
 
 pub loop-t-preserved : goal.loop-t-preserved
 loop-t-preserved c =
-    let ts = c.args.tasks.now in
-    let ms = c.args.members.now in
+    let ts = c.args.self.now.tasks.now in
+    let ms = members_of c.args.self.now in
     let i = c.args.i in
     let t = c.loop-t.t in
     let p : ℕ → Bool = λ t. leb (load ts ms i t) t in
@@ -17,8 +18,8 @@ loop-t-preserved c =
 
 pub returns-then-load-t : goal.returns-then-load-t
 returns-then-load-t c =
-    let ts = c.args.tasks.now in
-    let ms = c.args.members.now in
+    let ts = c.args.self.now.tasks.now in
+    let ms = members_of c.args.self.now in
     let i = c.args.i in
     let t = c.loop-t.t in
     let p : ℕ → Bool = λ t. leb (load ts ms i t) t in
