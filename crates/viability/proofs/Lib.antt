@@ -1,7 +1,6 @@
 pub mod Totals
 pub mod Owned
 mod Rounded
-mod Summed
 mod Searched
 mod Gathered
 mod Taking

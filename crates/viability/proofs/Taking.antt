@@ -2,7 +2,7 @@
 use Rattle.std.proofs.Common.{◌≡◌, ℕ, suc, ◌+◌, ◌-◌, ◌<◌, ◌≤◌, Bool, true, false, List, [], ◌∷◌, ◌++◌, length, is_some, Some, None, Option, sym, refl, ap, ◌∙◌, inl, inr, arith}
 use Rattle.std.specs.List.{AllByRecursion}
 use Rattle.std.proofs.lemmas.Bool.{cases_eq, cond-false, ne_eqb, both_ways}
-use Rattle.std.proofs.lemmas.List.{append-nil, append_assoc, length_push, get_or-set_other}
+use Rattle.std.proofs.lemmas.List.{append_assoc, length_push, get_or-set_other}
 use Rattle.std.proofs.ByRecursion.{All-push, All-weaker}
 use Rattle.tables.specs.declared.task.Task.{Task}
 use Rattle.orderings.specs.Places.{place_from}
@@ -10,7 +10,7 @@ use Rattle.orderings.specs.BackgroundList.{takes_number}
 use Rattle.orderings.specs.Placed.{takes_new}
 use Rattle.viability.specs.declared.candidate.Candidate.{Candidate}
 use Rattle.viability.specs.Viable.{is_in}
-use Rattle.viability.specs.OwnList.{next_taken, without, taken_from, everyone, own_list}
+use Rattle.viability.specs.OwnList.{next_taken, without, taken_from, own_list}
 use Rattle.viability.proofs.Owned.{next_is, left_out}
 
 -- a number stands in no list of numbers that are out of a set that it is in
@@ -30,21 +30,7 @@ pub record Taking (ts : List Task) (members : List Bool) (xs : List ℕ) (k : �
   pub out : AllByRecursion (λ x. is_in members x ≡ false) xs
   pub whole : xs ++ taken_from ts members (next_taken ts members) (length ts - k) ≡ own_list ts
 
-pub taking_none : (ts : List Task) → Taking ts (everyone ts) [] 0
-taking_none ts =
-    let n : length ts - 0 ≡ length ts = omega arith in
-    record { count = refl; out = tt; whole = ap (taken_from ts (everyone ts) (next_taken ts (everyone ts))) n }
-
 module _ {ts : List Task} {members : List Bool} {xs : List ℕ} {k : ℕ} (u : Taking ts members xs k) where
-  -- all were taken, or no other can be
-  pub taking_all : length ts ≤ k → xs ≡ own_list ts
-  taking_all past =
-      let n : length ts - k ≡ 0 = omega arith in
-      sym (append-nil xs) ∙ ap (λ v. xs ++ v) (sym (ap (taken_from ts members (next_taken ts members)) n ∙ none_taken ts members (next_taken ts members))) ∙ u.whole
-
-  pub taking_end : next_taken ts members ≡ None → xs ≡ own_list ts
-  taking_end e = sym (append-nil xs) ∙ ap (λ o. xs ++ taken_from ts members o (length ts - k)) (sym e) ∙ u.whole
-
   module _ (x : Candidate) (next : next_taken ts members ≡ Some x) (more : k < length ts) where
     -- the list has room for it, and does not have it yet
     pub taking_takes : length ts ≤ 32 → takes_number xs x.task ≡ true
