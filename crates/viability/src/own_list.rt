@@ -13,6 +13,7 @@ use tables::table::Table;
 impl TaskSet<'_> {
     // Gathers the tasks of the set that are viable within it at the front of `found`, in the order of their numbers, and
     // tells how many there are.
+    #[tactic(auto, using(crate::proofs::Gathered::found_more, crate::proofs::Gathered::found_same))]
     fn gather(&self, found: &mut [Candidate]) -> usize
         requires room { length self.now.tasks.now ≤ length found.old }
         ensures viable { take result found.new ≡ candidates self.now.tasks.now (members_of self.now) }

@@ -34,6 +34,7 @@ impl TaskSet<'_> {
 
     // The response time of task i behind all other tasks of the set: the smallest t up to its deadline D in which one
     // budget of its own and what the others may ask for can be worked off. None where there is no such t.
+    #[tactic(auto, using(crate::proofs::Searched::search_found, crate::proofs::Searched::search_passed))]
     pub(crate) fn response(&self, i: usize) -> Option<u32>
         requires within { i < length self.now.tasks.now }
         ensures { result ≡ response self.now.tasks.now (members_of self.now) i }
