@@ -7,6 +7,7 @@ use crate::task_set::TaskSet;
 use tables::task::Task;
 
 // What a task may ask for in t units: its budget C for each of its jobs that is released in them.
+#[tactic(auto, using(crate::proofs::Rounded::ceil_is))]
 fn asked(task: &Task, t: u32) -> u64
     requires timed { Timed task.now }
     requires time { t ≤ 1000000 }
