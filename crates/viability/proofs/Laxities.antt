@@ -1,10 +1,9 @@
 -- Promotion times by laxity, one task after the other.
-use Rattle.std.proofs.Common.{◌≡◌, ℕ, suc, ◌+◌, ◌-◌, ◌<◌, ◌≤◌, Bool, not, ◌≢◌, List, length, get_or, set, is_some, Some, None, Ok, Err, Option, sym, refl, ap, ◌∙◌, inl, inr, add-one, arith}
+use Rattle.std.proofs.Common.{◌≡◌, ℕ, suc, ◌+◌, ◌-◌, ◌<◌, ◌≤◌, Bool, false, not, ◌≢◌, List, length, get_or, set, is_some, Some, None, Option, sym, ap, ◌∙◌, inl, inr, add-one, arith}
 use Rattle.std.specs.Option.{option_map}
 use Rattle.std.proofs.lemmas.List.{get_or-set_same, get_or-set_other, length-set}
 use Rattle.std.proofs.lemmas.List.FromFn.{fill_by_all}
 use Rattle.std.proofs.lemmas.Bool.{cases_eq}
-use Rattle.refusals.specs.declared.kinds.LaxityRefusal.TheVariants.{NoResponse}
 use Rattle.tables.specs.declared.task.Task.{Task}
 use Rattle.tables.specs.Tasks.{nobody}
 use Rattle.tables.specs.Setting.{set_fault, with_promotion, tasks_set_by, tasks_after_setting}
@@ -12,7 +11,7 @@ use Rattle.tables.proofs.Set.{fault_nothing}
 use Rattle.firsts.specs.Lowest.{lowest}
 use Rattle.firsts.proofs.Lowests.{lowest_found, lowest_passed, lowest_longer}
 use Rattle.viability.specs.Viable.{response}
-use Rattle.viability.specs.Laxity.{urgent_set, lax_time, without_time, laxity_by, laxity_answer, with_time, tasks_lax_by, tasks_after_laxity}
+use Rattle.viability.specs.Laxity.{urgent_set, lax_time, without_time, with_time, tasks_lax_by, tasks_after_laxity}
 
 module _ (ts : List Task) where
   -- has task i no time?
@@ -20,22 +19,14 @@ module _ (ts : List Task) where
   lacks i = not (is_some (lax_time ts i))
 
   module _ (i : ℕ) (within : i < length ts) (so_far : lowest lacks 0 i ≡ None) where
-    pub lacks_here : None ≡ lax_time ts i → Err (NoResponse i) ≡ laxity_answer ts
+    pub lacks_here : false ≡ is_some (lax_time ts i) → without_time ts ≡ Some i
     lacks_here e =
-        let found : lowest lacks 0 (suc i) ≡ Some i = lowest_found lacks 0 i i (omega arith) so_far (ap (λ o. not (is_some o)) (sym e)) in
+        let found : lowest lacks 0 (suc i) ≡ Some i = lowest_found lacks 0 i i (omega arith) so_far (ap not (sym e)) in
         let more : suc i + (length ts - suc i) ≡ length ts = omega arith in
-        let all : lowest lacks 0 (length ts) ≡ Some i = sym (ap (lowest lacks 0) more) ∙ lowest_longer lacks 0 (suc i) (length ts - suc i) i found in
-        sym (ap laxity_by all)
+        sym (ap (lowest lacks 0) more) ∙ lowest_longer lacks 0 (suc i) (length ts - suc i) i found
 
-    pub has_here : (s : ℕ) → Some s ≡ lax_time ts i → lowest lacks 0 (i + 1) ≡ None
-    has_here s e = ap (lowest lacks 0) (add-one i) ∙ lowest_passed lacks 0 i i (omega arith) so_far (ap (λ o. not (is_some o)) (sym e))
-
-  pub has_more : (times : List ℕ) (i s : ℕ) → i < length times → ((k : ℕ) → k < i → lax_time ts k ≡ Some (get_or times k 0)) → Some s ≡ lax_time ts i
-      → (k : ℕ) → k < i + 1 → lax_time ts k ≡ Some (get_or (set times i s) k 0)
-  has_more times i s room before here k h = elim (cases_eq k i) [
-    | inl e ↦ ap (lax_time ts) e ∙ sym here ∙ ap Some (sym (get_or-set_same times i s 0 room)) ∙ ap (λ j. Some (get_or (set times i s) j 0)) (sym e)
-    | inr ne ↦ before k (omega arith) ∙ ap Some (sym (get_or-set_other times i k s 0 ne))
-  ]
+    pub has_here : (s : ℕ) → lax_time ts i ≡ Some s → lowest lacks 0 (i + 1) ≡ None
+    has_here s e = ap (lowest lacks 0) (add-one i) ∙ lowest_passed lacks 0 i i (omega arith) so_far (ap (λ o. not (is_some o)) e)
 
   lax_le : (d s : ℕ) (o : Option ℕ) → option_map (λ r. d - r) o ≡ Some s → s ≤ d
   lax_le d s None e = let z : ◌≡◌ {A = ℕ} 0 1 = cc in absurd (let w : ⊥ = omega arith in w)
@@ -72,13 +63,9 @@ module _ (ts : List Task) where
     pub set_rest : (k : ℕ) → i + 1 ≤ k → get_or (tasks_after_setting us i s) k nobody ≡ get_or ts k nobody
     set_rest k h = ap (λ l. get_or l k nobody) set_is ∙ get_or-set_other us i k _ nobody (let ne : k ≢ i = omega arith in ne) ∙ rest k (omega arith)
 
-  ok_none : (o : Option ℕ) → Ok tt ≡ laxity_by o → o ≡ None
-  ok_none None e = refl
-  ok_none (Some i) e = let z : ◌≡◌ {A = ℕ} 0 1 = cc in absurd (let w : ⊥ = omega arith in w)
-
   -- all tasks have their times
-  pub all_set : (us : List Task) → length us ≡ length ts → ((k : ℕ) → k < length ts → get_or us k nobody ≡ with_time (get_or ts k nobody) (lax_time ts k))
-      → Ok tt ≡ laxity_answer ts → us ≡ tasks_after_laxity ts
-  all_set us long done ok =
-      fill_by_all (λ k. with_time (get_or ts k nobody) (lax_time ts k)) us (length ts) nobody long done
-      ∙ ap (tasks_lax_by ts) (sym (ok_none (without_time ts) ok))
+  pub all_set : (us : List Task) (n : ℕ) → n ≡ length ts → lowest lacks 0 n ≡ None → length us ≡ length ts
+      → ((k : ℕ) → k < n → get_or us k nobody ≡ with_time (get_or ts k nobody) (lax_time ts k)) → us ≡ tasks_after_laxity ts
+  all_set us n all none long done =
+      fill_by_all (λ k. with_time (get_or ts k nobody) (lax_time ts k)) us (length ts) nobody long (λ k h. done k (omega arith))
+      ∙ ap (tasks_lax_by ts) (sym none ∙ ap (lowest lacks 0) all)

@@ -1,6 +1,6 @@
 pub mod Totals
 pub mod Owned
-mod Summed
+mod Rounded
 mod Searched
 mod Gathered
 mod Taking

@@ -1,6 +1,7 @@
 -- The tasks of a table's own background list: each was viable within the tasks that were not taken before it.
 use Rattle.std.proofs.Common.{◌≡◌, ℕ, zero, suc, ◌+◌, ◌<◌, ◌≤◌, Bool, true, false, cond, ◌&&◌, eqb, leb, List, [], ◌∷◌, map, length, get_or, is_some, Some, None, Option, sym, refl, ap, ◌∙◌, inl, inr, arith}
 use Rattle.std.specs.List.{range_with_len}
+use Rattle.std.proofs.Math.Bool.{and-true}
 use Rattle.std.proofs.lemmas.Bool.{cases_eq, cond-true, cond-false, eq-eqb, ne_eqb, le-leb, lt-leb, leb-true, and_parts, and_left, and_right, false≢true}
 use Rattle.std.proofs.lemmas.List.{get_or-set_other, get_or-map}
 use Rattle.std.proofs.ByRecursion.{all_kept_by, kept_by_passes, All-map, All-from_get_or}
@@ -66,10 +67,6 @@ left_out [] k = refl
 left_out (m ∷ ms) zero = refl
 left_out (m ∷ ms) (suc k) = left_out ms k
 
-and_yes : (u v : Bool) → v ≡ true → u ≡ (u && v)
-and_yes true v e = sym e
-and_yes false v e = refl
-
 module _ (ts : List Task) where
   -- the set within which task b was viable, where b stands at place p of what is taken from a set
   record Within (members : List Bool) (k : ℕ) (taken : List ℕ) (b p : ℕ) : Type 0 where
@@ -94,7 +91,7 @@ module _ (ts : List Task) where
         of_table = let low = r.0 in omega arith;
         inside = ap (is_in members) (sym at) ∙ r.1;
         good = ap (viable ts members) (sym at) ∙ r.2;
-        same = λ j. and_yes (is_in members j) _ (none_before p k (x.task ∷ rest) j (omega arith));
+        same = λ j. sym (and-true (is_in members j)) ∙ ap (λ v. is_in members j && v) (sym (none_before p k (x.task ∷ rest) j (omega arith)));
       }
 
   -- one that is taken after x

@@ -1,8 +1,8 @@
 -- The loop that takes one task after the other from the set of all tasks.
-use Rattle.std.proofs.Common.{◌≡◌, ℕ, zero, suc, ◌+◌, ◌-◌, ◌<◌, ◌≤◌, Bool, true, false, List, [], ◌∷◌, ◌++◌, length, take, set, replicate, is_some, Some, None, Option, sym, refl, ap, ◌∙◌, inl, inr, arith}
+use Rattle.std.proofs.Common.{◌≡◌, ℕ, suc, ◌+◌, ◌-◌, ◌<◌, ◌≤◌, Bool, true, false, List, [], ◌∷◌, ◌++◌, length, is_some, Some, sym, refl, ap, ◌∙◌, inl, inr, arith}
 use Rattle.std.specs.List.{AllByRecursion}
 use Rattle.std.proofs.lemmas.Bool.{cases_eq, cond-false, ne_eqb, both_ways}
-use Rattle.std.proofs.lemmas.List.{append-nil, append_assoc, length_push, take-replicate, get_or-set_other}
+use Rattle.std.proofs.lemmas.List.{append_assoc, length_push, get_or-set_other}
 use Rattle.std.proofs.ByRecursion.{All-push, All-weaker}
 use Rattle.tables.specs.declared.task.Task.{Task}
 use Rattle.orderings.specs.Places.{place_from}
@@ -10,23 +10,8 @@ use Rattle.orderings.specs.BackgroundList.{takes_number}
 use Rattle.orderings.specs.Placed.{takes_new}
 use Rattle.viability.specs.declared.candidate.Candidate.{Candidate}
 use Rattle.viability.specs.Viable.{is_in}
-use Rattle.viability.specs.OwnList.{next_taken, without, taken_from, everyone, own_list}
+use Rattle.viability.specs.OwnList.{next_taken, without, taken_from, own_list}
 use Rattle.viability.proofs.Owned.{next_is, left_out}
-
--- the first n flags, after one of them is cleared
-pub front_without : (n : ℕ) (flags : List Bool) (k : ℕ) → take n (set flags k false) ≡ without (take n flags) k
-front_without zero flags k = refl
-front_without (suc n) [] k = refl
-front_without (suc n) (f ∷ fs) zero = refl
-front_without (suc n) (f ∷ fs) (suc k) = ap (λ u. f ∷ u) (front_without n fs k)
-
-all_set : (ts : List Task) → replicate (length ts) true ≡ everyone ts
-all_set [] = refl
-all_set (t ∷ ts) = ap (λ u. true ∷ u) (all_set ts)
-
--- all flags of a table's tasks
-pub front_everyone : (ts : List Task) (n : ℕ) → length ts ≤ n → take (length ts) (replicate n true) ≡ everyone ts
-front_everyone ts n h = take-replicate (length ts) n true h ∙ all_set ts
 
 -- a number stands in no list of numbers that are out of a set that it is in
 not_listed : (members : List Bool) (k : ℕ) (xs : List ℕ) (n : ℕ) → AllByRecursion (λ x. is_in members x ≡ false) xs → is_in members n ≡ true → is_some (place_from k xs n) ≡ false
@@ -35,52 +20,34 @@ not_listed members k (x ∷ xs) n out here =
     ap is_some (cond-false _ (Some k) (place_from (k + 1) xs n) (ne_eqb x n (λ e. both_ways (is_in members n) (ap (is_in members) (sym e) ∙ out.0) here)))
     ∙ not_listed members (k + 1) xs n out.1 here
 
-none_taken : (ts : List Task) (members : List Bool) (next : Option Candidate) → taken_from ts members next 0 ≡ []
-none_taken ts members None = refl
-none_taken ts members (Some x) = refl
-
 -- k tasks xs were taken, and what is left of the set gives the rest of the list
 pub record Taking (ts : List Task) (members : List Bool) (xs : List ℕ) (k : ℕ) : Type 0 where
   pub count : length xs ≡ k
   pub out : AllByRecursion (λ x. is_in members x ≡ false) xs
   pub whole : xs ++ taken_from ts members (next_taken ts members) (length ts - k) ≡ own_list ts
 
-pub taking_none : (ts : List Task) → Taking ts (everyone ts) [] 0
-taking_none ts =
-    let n : length ts - 0 ≡ length ts = omega arith in
-    record { count = refl; out = tt; whole = ap (taken_from ts (everyone ts) (next_taken ts (everyone ts))) n }
+module _ {ts : List Task} {members : List Bool} {xs : List ℕ} {k : ℕ} (u : Taking ts members xs k) (x : Candidate)
+    (next : next_taken ts members ≡ Some x) (more : k < length ts) where
+  -- the list has room for it, and does not have it yet
+  pub taking_takes : length ts ≤ 32 → takes_number xs x.task ≡ true
+  taking_takes few =
+      let n = u.count in
+      takes_new xs x.task (omega arith) (not_listed members 0 xs x.task u.out (next_is ts members x next).1)
 
-module _ {ts : List Task} {members : List Bool} {xs : List ℕ} {k : ℕ} (u : Taking ts members xs k) where
-  -- all were taken, or no other can be
-  pub taking_all : length ts ≤ k → xs ≡ own_list ts
-  taking_all past =
-      let n : length ts - k ≡ 0 = omega arith in
-      sym (append-nil xs) ∙ ap (λ v. xs ++ v) (sym (ap (taken_from ts members (next_taken ts members)) n ∙ none_taken ts members (next_taken ts members))) ∙ u.whole
+  still_out : (y : ℕ) → is_in members y ≡ false → is_in (without members x.task) y ≡ false
+  still_out y e = elim (cases_eq y x.task) [
+    | inl same ↦ ap (is_in (without members x.task)) same ∙ left_out members x.task
+    | inr ne ↦ get_or-set_other members x.task y false false ne ∙ e
+  ]
 
-  pub taking_end : next_taken ts members ≡ None → xs ≡ own_list ts
-  taking_end e = sym (append-nil xs) ∙ ap (λ o. xs ++ taken_from ts members o (length ts - k)) (sym e) ∙ u.whole
-
-  module _ (x : Candidate) (next : next_taken ts members ≡ Some x) (more : k < length ts) where
-    -- the list has room for it, and does not have it yet
-    pub taking_takes : length ts ≤ 32 → takes_number xs x.task ≡ true
-    taking_takes few =
-        let n = u.count in
-        takes_new xs x.task (omega arith) (not_listed members 0 xs x.task u.out (next_is ts members x next).1)
-
-    still_out : (y : ℕ) → is_in members y ≡ false → is_in (without members x.task) y ≡ false
-    still_out y e = elim (cases_eq y x.task) [
-      | inl same ↦ ap (is_in (without members x.task)) same ∙ left_out members x.task
-      | inr ne ↦ get_or-set_other members x.task y false false ne ∙ e
-    ]
-
-    pub taking_more : Taking ts (without members x.task) (xs ++ x.task ∷ []) (k + 1)
-    taking_more =
-        let left = without members x.task in
-        let n : length ts - k ≡ suc (length ts - (k + 1)) = omega arith in
-        let opened : taken_from ts members (next_taken ts members) (length ts - k) ≡ x.task ∷ taken_from ts left (next_taken ts left) (length ts - (k + 1)) =
-        ap (λ o. taken_from ts members o (length ts - k)) next ∙ ap (taken_from ts members (Some x)) n in
-        record {
-          count = length_push xs x.task ∙ ap (λ m. m + 1) u.count;
-          out = All-push (λ y. is_in left y ≡ false) xs x.task (All-weaker (λ y. is_in members y ≡ false) (λ y. is_in left y ≡ false) still_out xs u.out) (left_out members x.task);
-          whole = append_assoc xs (x.task ∷ []) (taken_from ts left (next_taken ts left) (length ts - (k + 1))) ∙ ap (λ v. xs ++ v) (sym opened) ∙ u.whole;
-        }
+  pub taking_more : Taking ts (without members x.task) (xs ++ x.task ∷ []) (k + 1)
+  taking_more =
+      let left = without members x.task in
+      let n : length ts - k ≡ suc (length ts - (k + 1)) = omega arith in
+      let opened : taken_from ts members (next_taken ts members) (length ts - k) ≡ x.task ∷ taken_from ts left (next_taken ts left) (length ts - (k + 1)) =
+      ap (λ o. taken_from ts members o (length ts - k)) next ∙ ap (taken_from ts members (Some x)) n in
+      record {
+        count = length_push xs x.task ∙ ap (λ m. m + 1) u.count;
+        out = All-push (λ y. is_in left y ≡ false) xs x.task (All-weaker (λ y. is_in members y ≡ false) (λ y. is_in left y ≡ false) still_out xs u.out) (left_out members x.task);
+        whole = append_assoc xs (x.task ∷ []) (taken_from ts left (next_taken ts left) (length ts - (k + 1))) ∙ ap (λ v. xs ++ v) (sym opened) ∙ u.whole;
+      }

@@ -2,8 +2,9 @@ ghost use Rattle.viability.specs.OwnList.{later};
 
 use firsts::order::Order;
 
-/// A task that may go to the background next, by its deadline and its number.
-#[derive(Clone, Copy)]
+/// A task that may go to the background next, by its deadline and its number. Candidates are compared by their deadlines,
+/// and those of equal deadlines by their numbers.
+#[derive(Clone, Copy, PartialEq, Eq, PartialOrd, Ord)]
 pub struct Candidate {
     pub deadline: u32,
     pub task: u32,
@@ -17,6 +18,6 @@ impl Order<Candidate> for LongestFirst {
     ghost precedes = { λ _ x y. later x y };
 
     fn is_before(&self, x: &Candidate, y: &Candidate) -> bool {
-        x.deadline > y.deadline || (x.deadline == y.deadline && x.task > y.task)
+        x > y
     }
 }

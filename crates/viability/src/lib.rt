@@ -4,5 +4,6 @@ pub mod candidate;
 pub mod laxity;
 pub mod own_list;
 mod response;
+mod task_set;
 #[cfg(test)]
 mod tests;

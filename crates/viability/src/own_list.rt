@@ -1,53 +1,50 @@
 ghost use Rattle.std.specs.Prelude.{◌≡◌, ◌≤◌, length, take};
-ghost use Rattle.tables.specs.Tasks.{Each, Timed};
 ghost use Rattle.tables.specs.Tables.{tasks_of};
 ghost use Rattle.orderings.specs.BackgroundList.{numbers_of};
 ghost use Rattle.viability.specs.OwnList.{candidates, next_taken, own_list};
+ghost use Rattle.viability.specs.TaskSets.{members_of};
 
 use crate::candidate::{Candidate, LongestFirst};
-use crate::response::response;
+use crate::task_set::TaskSet;
 use firsts::order::first;
 use orderings::background_list::BackgroundList;
 use tables::table::Table;
-use tables::task::Task;
 
-// Gathers the tasks of a set that are viable within it at the front of `found`, in the order of their numbers, and tells
-// how many there are.
-fn gather(tasks: &[Task], members: &[bool], found: &mut [Candidate]) -> usize
-    requires few { length tasks.now ≤ 32 }
-    requires timed { Each Timed tasks.now }
-    requires flags { length members.now ≡ length tasks.now }
-    requires room { length tasks.now ≤ length found.old }
-    ensures viable { take result found.new ≡ candidates tasks.now members.now }
-    ensures bound { result ≤ length tasks.now }
-{
-    let mut n = 0;
-    for k in 0..tasks.len() {
-        if members[k] && response(tasks, members, k).is_some() {
-            found[n] = Candidate {
-                deadline: tasks[k].d,
-                task: k as u32,
-            };
-            n += 1;
+impl TaskSet<'_> {
+    // Gathers the tasks of the set that are viable within it at the front of `found`, in the order of their numbers, and
+    // tells how many there are.
+    #[tactic(auto, using(crate::proofs::Gathered::found_more, crate::proofs::Gathered::found_same))]
+    fn gather(&self, found: &mut [Candidate]) -> usize
+        requires room { length self.now.tasks.now ≤ length found.old }
+        ensures viable { take result found.new ≡ candidates self.now.tasks.now (members_of self.now) }
+        ensures bound { result ≤ length self.now.tasks.now }
+    {
+        let mut n = 0;
+        for (k, x) in self.tasks.iter().enumerate() {
+            if self.has(k) && self.response(k).is_some() {
+                found[n] = Candidate {
+                    deadline: x.d,
+                    task: k as u32,
+                };
+                n += 1;
+            }
         }
+        n
     }
-    n
-}
 
-// The one that is taken next from a set: of the tasks that are viable within it the one with the longest deadline, and of
-// equal deadlines the greater number. None where no task is viable.
-fn next(tasks: &[Task], members: &[bool]) -> Option<Candidate>
-    requires few { length tasks.now ≤ 32 }
-    requires timed { Each Timed tasks.now }
-    requires flags { length members.now ≡ length tasks.now }
-    ensures { result ≡ next_taken tasks.now members.now }
-{
-    let mut found = [Candidate {
-        deadline: 0,
-        task: 0,
-    }; 32];
-    let n = gather(tasks, members, &mut found);
-    first(&found[0..n], &LongestFirst).copied()
+    // The one that is taken next from the set: of the tasks that are viable within it the one with the longest deadline,
+    // and of equal deadlines the greater number. None where no task is viable.
+    fn next(&self) -> Option<Candidate>
+        ensures { result ≡ next_taken self.now.tasks.now (members_of self.now) }
+    {
+        // `first` takes a slice, and the library allocates nothing, so the candidates stand in an array of fixed size
+        let mut found = [Candidate {
+            deadline: 0,
+            task: 0,
+        }; 32];
+        let n = self.gather(&mut found);
+        first(&found[..n], &LongestFirst).copied()
+    }
 }
 
 /// The background list of a table: the tasks that can be served behind all others. A task is viable within a set if it
@@ -57,20 +54,13 @@ fn next(tasks: &[Task], members: &[bool]) -> Option<Candidate>
 pub fn own_background_list(table: &Table) -> BackgroundList
     ensures value { numbers_of result ≡ own_list (tasks_of table.now) }
 {
-    let tasks = table.tasks();
-    let n = tasks.len();
-    // which tasks are still in the set
-    let mut members = [true; 32];
+    let mut left = TaskSet::all(table);
     let mut list = BackgroundList::new();
-    for _ in 0..n {
-        match next(tasks, &members[0..n]) {
-            Some(x) => {
-                // the list has no member of the set yet, so it always takes this one
-                list.take(x.task);
-                members[x.task as usize] = false;
-            }
-            None => return list,
-        }
+    for _ in 0..table.len() {
+        let Some(x) = left.next() else { break };
+        // the list has no member of the set yet, so it always takes this one
+        list.take(x.task);
+        left.remove(x.task as usize);
     }
     list
 }

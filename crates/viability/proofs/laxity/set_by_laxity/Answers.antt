@@ -1,33 +1,41 @@
-use Rattle.std.proofs.Common.{◌≡◌, ◌<◌, length, get_or, Some, sym, ap, ◌∙◌, subst, arith}
+use Rattle.std.proofs.Common.{◌≡◌, ◌<◌, length, get_or, is_some, Some, Err, sym, ap, ◌∙◌, arith, rules}
+use Rattle.refusals.specs.declared.kinds.LaxityRefusal.TheVariants.{NoResponse}
 use Rattle.tables.specs.Tasks.{nobody}
 use Rattle.tables.specs.Tables.{tasks_of}
-use Rattle.viability.specs.Laxity.{lax_time, laxity_answer}
-use Rattle.viability.proofs.Laxities.{set_long, set_done, set_rest, all_set}
+use Rattle.viability.specs.Laxity.{lax_time, without_time, laxity_by, laxity_answer, tasks_lax_by}
+use Rattle.viability.proofs.Laxities.{lacks_here, has_here, set_long, set_done, set_rest, all_set}
 use Rattle.viability.proofs.laxity.set_by_laxity.Goals as goal
+
+pub returns-in_err-s-clause-answer : goal.returns-in_err-s-clause-answer
+returns-in_err-s-clause-answer c =
+    let ts = tasks_of c.args.table.now in
+    let first : without_time ts ≡ Some c.loop-i.i = lacks_here ts c.loop-i.i (omega arith) c.loop-i.invariant.0 (c.in_err-s.ensures.variant ∙ ap is_some c.lax_time.ensures) in
+    let e : laxity_answer ts ≡ Err (NoResponse c.loop-i.i) = ap laxity_by first in
+    search rules
+
+pub returns-in_err-s-clause-tasks_after : goal.returns-in_err-s-clause-tasks_after
+returns-in_err-s-clause-tasks_after c =
+    let ts = tasks_of c.args.table.now in
+    let first : without_time ts ≡ Some c.loop-i.i = lacks_here ts c.loop-i.i (omega arith) c.loop-i.invariant.0 (c.in_err-s.ensures.variant ∙ ap is_some c.lax_time.ensures) in
+    sym (ap (tasks_lax_by ts) first)
 
 pub loop-i-preserved : goal.loop-i-preserved
 loop-i-preserved c =
     let ts = tasks_of c.args.table.now in
-    let us = tasks_of c.loop-i.table in
+    let us = tasks_of c.loop-i.after in
     let i = c.loop-i.i in
-    let s = get_or c.lax_times.new.times i 0 in
-    let inv = c.loop-i.invariant in
-    let same = c.tasks.ensures in
-    let in_table : i < length ts = (let t = c.loop-i-test.true in let l = c.len-i-end.ensures in omega arith) in
-    let found = c.in_ok-lax_times.ensures.found in
-    let time : lax_time ts i ≡ Some s = subst (λ l. lax_time l i ≡ Some s) same (found i (subst (λ l. i < length l) (sym same) in_table)) in
-    let after = c.set_promotion.ensures.tasks_after in (
-      ap length after ∙ set_long ts us i s inv.0 in_table inv.1 inv.2 time,
-      (λ k h. ap (λ l. get_or l k nobody) after ∙ set_done ts us i s inv.0 in_table inv.1 inv.2 time k h),
-      (λ k h. ap (λ l. get_or l k nobody) after ∙ set_rest ts us i s inv.0 in_table inv.1 inv.2 time k h),
+    let s = c.in_ok-s.s in
+    let h = c.loop-i.invariant in
+    let within : i < length ts = omega arith in
+    let time : lax_time ts i ≡ Some s = sym c.lax_time.ensures ∙ c.in_ok-s.ensures.ok_part in
+    let set = c.set_promotion.ensures.tasks_after in (
+      has_here ts i within h.0 s time,
+      ap length set ∙ set_long ts us i s h.1 within h.2 h.3 time,
+      (λ k l. ap (λ xs. get_or xs k nobody) set ∙ set_done ts us i s h.1 within h.2 h.3 time k l),
+      (λ k l. ap (λ xs. get_or xs k nobody) set ∙ set_rest ts us i s h.1 within h.2 h.3 time k l),
     )
 
-pub returns : goal.returns
-returns c =
-    let ts = tasks_of c.args.table.now in
-    let ok = c.in_ok-lax_times.ensures.answer ∙ ap laxity_answer c.tasks.ensures in
-    record {
-      answer = ok;
-      tasks_after = all_set ts (tasks_of c.loop-i.table) c.loop-i.invariant.0 (λ k h. c.loop-i.invariant.1 k (let l = c.len-i-end.ensures in let t = c.loop-i-test.false in omega arith)) ok;
-      same_if_refused = tt;
-    }
+pub returns-clause-tasks_after : goal.returns-clause-tasks_after
+returns-clause-tasks_after c =
+    let h = c.loop-i.invariant in
+    all_set (tasks_of c.args.table.now) (tasks_of c.loop-i.after) c.loop-i.i (omega arith) h.0 h.1 h.2

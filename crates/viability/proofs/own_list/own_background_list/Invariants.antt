@@ -1,10 +1,11 @@
-use Rattle.std.proofs.Common.{◌≡◌, length, take}
+use Rattle.std.proofs.Common.{◌≡◌}
 use Rattle.tables.specs.Tables.{tasks_of}
 use Rattle.orderings.specs.BackgroundList.{numbers_of}
+use Rattle.viability.specs.TaskSets.{members_of}
 use Rattle.viability.proofs.Taking.{Taking}
 use Rattle.viability.proofs.own_list.own_background_list.Given as goal
 
 abbrev pub invariant-loop : goal.invariant-loop
 invariant-loop l =
-    (length l.members ≡ 32)
-    × Taking (tasks_of l.table) (take (length (tasks_of l.table)) l.members) (numbers_of l.list) l.counter
+    (l.left.tasks.now ≡ tasks_of l.table)
+    × Taking (tasks_of l.table) (members_of l.left) (numbers_of l.list) l.counter
