@@ -26,9 +26,9 @@ module _ (xs ys : List Slot) (k : ℕ) (within : k < length ys) (done : (i : ℕ
   pub grown_rest : (i : ℕ) → k + 1 ≤ i → at (set ys k (older (at ys k))) i ≡ at xs i
   grown_rest i h = let ne : i ≢ k = omega arith in get_or-set_other ys k i (older (at ys k)) nothing ne ∙ rest i (omega arith)
 
-  -- the slot just written
-  pub grown_here : at (set ys k (older (at ys k))) k ≡ older (at xs k)
-  grown_here = grown_more k (omega arith)
+  -- what is written there
+  pub grown_here : older (at ys k) ≡ older (at xs k)
+  grown_here = ap older (rest k (omega arith))
 
 -- the loop's step: a miss was found before, is found here, or is not found here
 pub miss_kept : (p : ℕ → Bool) (k : ℕ) (m : Option ℕ) → is_some m ≡ true → m ≡ lowest p 0 k → m ≡ lowest p 0 (k + 1)

@@ -118,9 +118,3 @@ module _ (m : Meaning) (ex : Exclusive m) (tr : Transitive m) (ss : List Slot) (
 -- the same of what is picked, once it is known
 pub picks : (m : Meaning) → Exclusive m → Transitive m → (ss : List Slot) → Counted ss → (p : Option Job) → picked m ss ≡ p → AheadOfAllReady m ss (option_map (λ j. j.task) p)
 picks m ex tr ss c p e = subst (λ o. AheadOfAllReady m ss (option_map (λ j. j.task) o)) e (picked_ahead m ex tr ss c)
-
--- the first of the gathered jobs is a ready job
-pub first_gathered_ready : (m : Meaning) (ss : List Slot) (jobs : List Job) (n : ℕ) (j : Job) → Some j ≡ first_in_order (under m) (take (n - 0) jobs) → take n jobs ≡ ready_from 0 ss → IsReady ss j
-first_gathered_ready m ss jobs n j e gathered =
-    let same : n - 0 ≡ n = omega arith in
-    picked_ready m ss j (sym (e ∙ ap (λ k. first_in_order (under m) (take k jobs)) same ∙ ap (first_in_order (under m)) gathered))

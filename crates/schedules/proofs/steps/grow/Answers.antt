@@ -17,11 +17,12 @@ loop-k-preserved c =
     let k = c.loop-k.k in
     let within : k < length ys = omega arith in
     let inv = c.loop-k.invariant in
+    let e = grown_here xs ys k within inv.0 inv.1 in
     let p : ℕ → Bool = λ i. late (get_or c.args.tasks.now i nobody) (older (at xs i)) in
-    let here : c.is_late.result ≡ p k = c.is_late.ensures ∙ ap (late (get_or c.args.tasks.now k nobody)) (grown_here xs ys k within inv.0 inv.1) in (
+    let here : c.is_late.result ≡ p k = c.is_late.ensures ∙ ap (late (get_or c.args.tasks.now k nobody)) e in (
       grown_more xs ys k within inv.0 inv.1,
       grown_rest xs ys k within inv.0 inv.1,
-      none_due_more (λ i. eqb ((at xs i).age + 1) (get_or ts i nobody).t) c.loop-k.due _ k inv.2 (ap (λ x. eqb x.age (get_or ts k nobody).t) (grown_here xs ys k within inv.0 inv.1)),
+      none_due_more (λ i. eqb ((at xs i).age + 1) (get_or ts i nobody).t) c.loop-k.due _ k inv.2 (ap (λ x. eqb x.age (get_or ts k nobody).t) e),
       elim c.if-is_late.branch [
         | then-is_late+then-is_none w ↦ w.miss-is ∙ miss_found p k c.loop-k.miss (w.is_none.ensures ∙ ap not w.if-is_none.true) inv.3 (sym here ∙ w.if-is_late.true)
         | else-is_late w ↦ w.miss-is ∙ (elim w.else-is_late.branch [

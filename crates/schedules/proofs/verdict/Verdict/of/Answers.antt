@@ -75,7 +75,7 @@ unreachable-requires g c =
     let inv = c.loop-n.invariant in
     let on = (going ts m t.timed n inv.3).on in
     answer_refused ts m (full ts m n) _ on
-    (c.in-Err.ensures.answer ∙ same-call ahead tick_answer t run.table.now c.args.ordering.now run.ordering.now (full ts m n) (state_of_run run) inv.0 inv.1 inv.2)
+    (c.in_default.ensures.answer ∙ same-call ahead tick_answer t run.table.now c.args.ordering.now run.ordering.now (full ts m n) (state_of_run run) inv.0 inv.1 inv.2)
 
 pub loop-n-preserved : goal.loop-n-preserved
 loop-n-preserved g c =
@@ -89,7 +89,7 @@ loop-n-preserved g c =
     let e = c.in-Ok.ensures in
     let on = (going ts m t.timed n inv.3).on in
     let miss = answer_miss ts m (full ts m n) _ c.in-Ok.miss on
-    (e.answer ∙ same-call ahead tick_answer t run.table.now c.args.ordering.now run.ordering.now (full ts m n) (state_of_run run) inv.0 inv.1 inv.2) ∙ c.in_default.is in
+    (e.answer ∙ same-call ahead tick_answer t run.table.now c.args.ordering.now run.ordering.now (full ts m n) (state_of_run run) inv.0 inv.1 inv.2) ∙ c.in_default-miss.is in
     let state : state_of_run c.tick.new.self ≡ full ts m (n + 1) =
     e.after
     ∙ same-call ahead ticked t run.table.now c.args.ordering.now run.ordering.now (full ts m n) (state_of_run run) inv.0 inv.1 inv.2
