@@ -48,6 +48,7 @@ impl<'t, 'o, O: Ordering> Run<'t, 'o, O> {
         }
         let ran = self.serve();
         let miss = self.advance();
+        // a pair, as the specification asks for
         Ok((ran, miss))
     }
 

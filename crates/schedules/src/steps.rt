@@ -58,12 +58,14 @@ fn grow(tasks: &[Task], slots: &mut [Slot]) -> Grown
 {
     let mut miss = None;
     let mut due = false;
+    // no zip with the tasks: a proof knows nothing of slots that were lent through one
     for (k, slot) in slots.iter_mut().enumerate() {
+        let task = &tasks[k];
         slot.age += 1;
-        if is_late(&tasks[k], slot) && miss.is_none() {
+        if is_late(task, slot) && miss.is_none() {
             miss = Some(k as u32);
         }
-        due = due | (slot.age == tasks[k].t);
+        due |= slot.age == task.t;
     }
     Grown { miss, due }
 }
@@ -83,10 +85,11 @@ fn release(tasks: &[Task], slots: &mut [Slot])
     requires { length slots.old ≤ length tasks.now }
     ensures { slots.new ≡ renewed tasks.now slots.old }
 {
+    // no zip, as in `grow`
     for (k, slot) in slots.iter_mut().enumerate() {
-        let task = tasks[k];
+        let task = &tasks[k];
         if slot.age == task.t {
-            *slot = fresh_slot(&task);
+            *slot = fresh_slot(task);
         }
     }
 }
@@ -132,6 +135,7 @@ pub(crate) fn fill(tasks: &[Task], slots: &mut [Slot])
     requires { length tasks.now ≤ length slots.old }
     ensures { (k : ℕ) → k < length tasks.now → at slots.new k ≡ released (slice_index_or tasks.now k nobody) }
 {
+    // no zip, as in `grow`
     for (k, task) in tasks.iter().enumerate() {
         slots[k] = fresh_slot(task);
     }

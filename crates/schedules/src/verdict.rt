@@ -18,6 +18,7 @@ pub struct Miss {
 }
 
 /// Whether all jobs of the endless full schedule meet their deadlines.
+// no Option: the specification wants an enum whose miss case holds the record
 #[derive(Clone, Copy, Debug, PartialEq, Eq)]
 pub enum Verdict {
     Holds,
