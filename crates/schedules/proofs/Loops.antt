@@ -1,34 +1,13 @@
 -- The loops of a unit.
-use Rattle.std.proofs.Common.{◌≡◌, ℕ, ◌+◌, ◌<◌, ◌≤◌, Bool, true, false, cond, ◌||◌, ltb, ◌≢◌, List, [], ◌∷◌, ◌++◌, map, length, take, drop, set, is_some, Some, None, Option, sym, refl, ap, ◌∙◌, subst, inl, inr, append_assoc, add-zero, add-one, arith, below_more}
+use Rattle.std.proofs.Common.{◌≡◌, ℕ, ◌+◌, ◌<◌, ◌≤◌, Bool, true, false, cond, ◌||◌, ltb, List, [], ◌∷◌, ◌++◌, length, take, drop, set, is_some, Some, None, Option, sym, refl, ap, ◌∙◌, inl, inr, append_assoc, add-zero, add-one, arith, below_more}
 use mir.Val.{bool_byte}
-use Rattle.std.proofs.lemmas.List.{ext_get_or, length-map, get_or-set_same, get_or-set_other, take-set, take_more_set, at_drop_more, at_drop_all, append-nil}
-use Rattle.std.proofs.lemmas.Bool.{cases_eq, cases_lt, cond-true, cond-false, true≢false, false≢true, lt-ltb, le-ltb, or_parts}
+use Rattle.std.proofs.lemmas.List.{take-set, take_more_set, at_drop_more, at_drop_all, append-nil}
+use Rattle.std.proofs.lemmas.Bool.{cases_lt, cond-true, cond-false, true≢false, false≢true, lt-ltb, le-ltb, or_parts}
 use Rattle.firsts.specs.Lowest.{lowest}
 use Rattle.firsts.proofs.Lowests.{lowest_kept, lowest_found, lowest_passed}
 use Rattle.schedules.specs.declared.slot.Slot.{Slot}
 use Rattle.firsts.specs.declared.job.Job.{Job}
-use Rattle.schedules.specs.Units.{nothing, at, older, ready_from}
-use Rattle.schedules.proofs.Slots.{older_at}
-
-pub grown : (xs ys : List Slot) → length ys ≡ length xs → ((k : ℕ) → k < length ys → at ys k ≡ older (at xs k)) → ys ≡ map older xs
-grown xs ys long each =
-    ext_get_or nothing ys (map older xs) (long ∙ sym (length-map xs older)) (λ k h. each k h ∙ sym (older_at xs k (subst (λ n. k < n) long h)))
-
--- one slot more has grown older
-module _ (xs ys : List Slot) (k : ℕ) (within : k < length ys) (done : (i : ℕ) → i < k → at ys i ≡ older (at xs i)) (rest : (i : ℕ) → k ≤ i → at ys i ≡ at xs i) where
-  pub grown_more : (i : ℕ) → i < k + 1 → at (set ys k (older (at ys k))) i ≡ older (at xs i)
-  grown_more i h =
-      elim (cases_eq i k) [
-        | inl e ↦ ap (at (set ys k (older (at ys k)))) e ∙ get_or-set_same ys k (older (at ys k)) nothing within ∙ ap older (rest k (omega arith)) ∙ ap (λ n. older (at xs n)) (sym e)
-        | inr ne ↦ get_or-set_other ys k i (older (at ys k)) nothing ne ∙ done i (omega arith)
-      ]
-
-  pub grown_rest : (i : ℕ) → k + 1 ≤ i → at (set ys k (older (at ys k))) i ≡ at xs i
-  grown_rest i h = let ne : i ≢ k = omega arith in get_or-set_other ys k i (older (at ys k)) nothing ne ∙ rest i (omega arith)
-
-  -- what is written there
-  pub grown_here : older (at ys k) ≡ older (at xs k)
-  grown_here = ap older (rest k (omega arith))
+use Rattle.schedules.specs.Units.{nothing, at, ready_from}
 
 -- the loop's step: a miss was found before, is found here, or is not found here
 pub miss_kept : (p : ℕ → Bool) (k : ℕ) (m : Option ℕ) → is_some m ≡ true → m ≡ lowest p 0 k → m ≡ lowest p 0 (k + 1)

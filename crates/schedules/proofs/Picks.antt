@@ -1,5 +1,5 @@
 -- The job that is picked: it is ready, and under a lawful meaning it is ahead of every other ready job.
-use Rattle.std.proofs.Common.{◌≡◌, ℕ, zero, suc, ◌+◌, ◌-◌, ◌<◌, ◌≤◌, Bool, true, false, cond, ltb, ◌≢◌, List, [], ◌∷◌, length, take, Some, None, Option, sym, refl, ap, ◌∙◌, subst, inl, inr, add-zero, zero-add, arith}
+use Rattle.std.proofs.Common.{◌≡◌, ℕ, zero, suc, ◌+◌, ◌<◌, ◌≤◌, Bool, true, false, cond, ltb, ◌≢◌, List, [], ◌∷◌, length, Some, None, Option, sym, refl, ap, ◌∙◌, subst, inl, inr, add-zero, zero-add, arith}
 use Rattle.std.specs.Option.{option_map}
 use Rattle.std.specs.List.{AllByRecursion}
 use Rattle.std.proofs.lemmas.Bool.{ltb-true, lt-ltb, cases_lt}
@@ -7,7 +7,7 @@ use Rattle.std.proofs.lemmas.List.{get_or_past}
 use Rattle.orderings.specs.Meaning.{Meaning, InRange, Exclusive, Transitive}
 use Rattle.schedules.specs.declared.slot.Slot.{Slot}
 use Rattle.firsts.specs.declared.job.Job.{Job}
-use Rattle.firsts.specs.First.{In, Distinct, ExclusiveOn, TransitiveOn, Leads, IsFirst, first_in_order}
+use Rattle.firsts.specs.First.{In, Distinct, ExclusiveOn, TransitiveOn, Leads, IsFirst}
 use Rattle.schedules.specs.Units.{nothing, at, Ready, ready_from, picked, under, AheadOfAllReady}
 use Rattle.firsts.proofs.Firsts.{first_leads, first_in, all_in}
 

@@ -31,14 +31,14 @@ module _ (ts : List Task) (p : Progress) (few : length ts ≤ 32) (wide : length
   view_at k h = get_or-take (length ts) p.slots k nothing h
 
 -- a run that goes on
-pub record Going (ts : List Task) (p : Progress) : Type 0 where
+pub record GoesOn (ts : List Task) (p : Progress) : Type 0 where
   pub few : length ts ≤ 32
   pub timed : Each Timed ts
   pub wide : length p.slots ≡ 32
   pub young : Young ts p
   pub on : p.ended ≡ false
 
-module _ {ts : List Task} {p : Progress} (u : Going ts p) where
+module _ {ts : List Task} {p : Progress} (u : GoesOn ts p) where
   age_below : (k : ℕ) → k < length ts → (at (take (length ts) p.slots) k).age + 1 ≤ (get_or ts k nobody).t
   age_below k h = let y = u.young u.on k h in let e = ap (λ s. s.age) (view_at ts p u.few u.wide k h) in omega arith
 
@@ -65,7 +65,7 @@ closed_renewed ts ss (Some k) e = absurd (true≢false e)
 
 -- the second half of a unit on a run's front slots; ts' is the table's list as the code had it
 pub record Advancing (ts ts' : List Task) (p : Progress) (slots : List Slot) (ended : Bool) : Type 0 where
-  pub going : Going ts p
+  pub going : GoesOn ts p
   pub same : ts' ≡ ts
   pub after : slots ≡ (advanced ts' (take (length ts') p.slots)).slots ++ drop (length ts') p.slots
   pub ends : ended ≡ is_some (missed ts' (map older (take (length ts') p.slots)))

@@ -1,10 +1,9 @@
-use Rattle.std.proofs.Common.{◌≡◌, not, eqb, ◌++◌, map, length, get_or, take, drop, is_some, sym, ap, ◌∙◌, arith}
+use Rattle.std.proofs.Common.{not, eqb, ◌++◌, map, length, get_or, take, drop, is_some, sym, ap, ◌∙◌, arith}
 use Rattle.std.proofs.lemmas.List.{length-map}
 use Rattle.tables.specs.Tasks.{nobody}
 use Rattle.tables.specs.Tables.{tasks_of}
 use Rattle.tables.proofs.Counted.{tasks_few}
 use Rattle.schedules.specs.Units.{at, older, missed, renewed}
-use Rattle.schedules.specs.Runs.{advanced}
 use Rattle.schedules.proofs.Slots.{renewed_same}
 use Rattle.schedules.proofs.Viewed.{Advancing, closed_missed, closed_same, closed_renewed, advanced_wide, advanced_state, advanced_young}
 use Rattle.schedules.proofs.run.Run.advance.Given.{Over}

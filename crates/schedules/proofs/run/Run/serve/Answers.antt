@@ -1,5 +1,4 @@
-use Rattle.std.proofs.Common.{ap, ◌∙◌, arith}
-use Rattle.tables.specs.Tables.{tasks_of}
+use Rattle.std.proofs.Common.{arith}
 use Rattle.tables.proofs.Counted.{tasks_few}
 use Rattle.schedules.proofs.Served.{Gathered, served_within, served_has_units, served_front}
 use Rattle.schedules.proofs.run.Run.serve.Given.{Over}
