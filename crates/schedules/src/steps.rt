@@ -62,8 +62,8 @@ fn grow(tasks: &[Task], slots: &mut [Slot]) -> Grown
     for (k, slot) in slots.iter_mut().enumerate() {
         let task = &tasks[k];
         slot.age += 1;
-        if is_late(task, slot) && miss.is_none() {
-            miss = Some(k as u32);
+        if is_late(task, slot) {
+            miss = miss.or(Some(k as u32));
         }
         due |= slot.age == task.t;
     }

@@ -1,13 +1,13 @@
-use Rattle.std.proofs.Common.{rules, ◌≡◌, ℕ, ◌+◌, Bool, not, eqb, map, length, get_or, sym, ap, ◌∙◌, arith}
+use Rattle.std.proofs.Common.{rules, ◌≡◌, ℕ, ◌+◌, Bool, eqb, map, length, get_or, sym, ap, ◌∙◌, arith}
 use Rattle.std.proofs.lemmas.List.{ext_get_or, length-map}
 use Rattle.tables.specs.Tasks.{nobody}
 use Rattle.firsts.specs.Lowest.{lowest}
 use Rattle.schedules.specs.Units.{nothing, at, older, late}
 use Rattle.schedules.proofs.Slots.{older_at}
 use Rattle.firsts.proofs.Lowests.{lowest_same}
-use Rattle.schedules.proofs.Loops.{miss_kept, miss_found, miss_passed, none_due_more}
+use Rattle.schedules.proofs.Loops.{miss_found, miss_passed, none_due_more}
 use Rattle.schedules.proofs.steps.grow.Goals as goal
-use Rattle.schedules.proofs.steps.grow.Goals.{then-is_late+then-is_none, else-is_late, else-is_late-via-then-is_late+else-is_none, else-is_late-via-else-is_late}
+use Rattle.schedules.proofs.steps.grow.Goals.{then-is_late, else-is_late}
 
 pub loop-k-preserved : goal.loop-k-preserved
 loop-k-preserved c =
@@ -23,11 +23,8 @@ loop-k-preserved c =
       (search rules),
       none_due_more (λ i. eqb ((at xs i).age + 1) (get_or ts i nobody).t) c.loop-k.due _ k inv.2 (ap (λ x. eqb x.age (get_or ts k nobody).t) e),
       elim c.if-is_late.branch [
-        | then-is_late+then-is_none w ↦ w.miss-is ∙ miss_found p k c.loop-k.miss (w.is_none.ensures ∙ ap not w.if-is_none.true) inv.3 (sym here ∙ w.if-is_late.true)
-        | else-is_late w ↦ w.miss-is ∙ (elim w.else-is_late.branch [
-          | else-is_late-via-then-is_late+else-is_none w' ↦ miss_kept p k c.loop-k.miss (w'.is_none.ensures ∙ ap not w'.if-is_none.false) inv.3
-          | else-is_late-via-else-is_late w' ↦ miss_passed p k c.loop-k.miss inv.3 (sym here ∙ w'.if-is_late.false)
-        ])
+        | then-is_late w ↦ w.miss-is ∙ w.or-miss.ensures ∙ miss_found p k c.loop-k.miss inv.3 (sym here ∙ w.if-is_late.true)
+        | else-is_late w ↦ w.miss-is ∙ miss_passed p k c.loop-k.miss inv.3 (sym here ∙ w.if-is_late.false)
       ],
     )
 
