@@ -70,7 +70,7 @@ fn grow(tasks: &[Task], slots: &mut [Slot]) -> Grown
     Grown { miss, due }
 }
 
-// The first slot of a job of this task.
+// The slot of a job of this task at its release.
 fn fresh_slot(task: &Task) -> Slot
     ensures { result ≡ released task.now }
 {
