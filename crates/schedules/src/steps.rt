@@ -13,6 +13,7 @@ use orderings::ordering::Ordering;
 use tables::task::Task;
 
 // Gathers the ready jobs at the front of `ready`, in the order of their numbers, and tells how many there are.
+// It tells a number and lends no slice: of the length of what a result was lent from, a proof knows nothing afterwards.
 fn gather(slots: &[Slot], ready: &mut [Job]) -> usize
     requires few { length slots.now ≤ 32 }
     requires room { length slots.now ≤ length ready.old }
