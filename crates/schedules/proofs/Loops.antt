@@ -1,47 +1,27 @@
 -- The loops of a unit.
-use Rattle.std.proofs.Common.{◌≡◌, ℕ, ◌+◌, ◌<◌, ◌≤◌, Bool, true, false, cond, ◌||◌, ltb, ◌≢◌, List, [], ◌∷◌, ◌++◌, map, length, take, drop, set, is_some, Some, None, Option, sym, refl, ap, ◌∙◌, subst, inl, inr, append_assoc, add-zero, add-one, arith, below_more}
+use Rattle.std.proofs.Common.{◌≡◌, ℕ, ◌+◌, ◌<◌, ◌≤◌, Bool, true, false, cond, ◌||◌, ltb, List, [], ◌∷◌, ◌++◌, length, take, drop, set, Some, None, Option, sym, ap, ◌∙◌, inl, inr, append_assoc, add-zero, add-one, arith, below_more}
+use Rattle.std.specs.Option.{option_or}
 use mir.Val.{bool_byte}
-use Rattle.std.proofs.lemmas.List.{ext_get_or, length-map, get_or-set_same, get_or-set_other, take-set, take_more_set, at_drop_more, at_drop_all, append-nil}
-use Rattle.std.proofs.lemmas.Bool.{cases_eq, cases_lt, cond-true, cond-false, true≢false, false≢true, lt-ltb, le-ltb, or_parts}
+use Rattle.std.proofs.lemmas.List.{take-set, take_more_set, at_drop_more, at_drop_all, append-nil}
+use Rattle.std.proofs.lemmas.Bool.{cases_lt, cond-true, cond-false, lt-ltb, le-ltb, or_parts}
 use Rattle.firsts.specs.Lowest.{lowest}
 use Rattle.firsts.proofs.Lowests.{lowest_kept, lowest_found, lowest_passed}
 use Rattle.schedules.specs.declared.slot.Slot.{Slot}
 use Rattle.firsts.specs.declared.job.Job.{Job}
-use Rattle.schedules.specs.Units.{nothing, at, older, ready_from}
-use Rattle.schedules.proofs.Slots.{older_at}
+use Rattle.schedules.specs.Units.{nothing, at, ready_from}
 
-pub grown : (xs ys : List Slot) → length ys ≡ length xs → ((k : ℕ) → k < length ys → at ys k ≡ older (at xs k)) → ys ≡ map older xs
-grown xs ys long each =
-    ext_get_or nothing ys (map older xs) (long ∙ sym (length-map xs older)) (λ k h. each k h ∙ sym (older_at xs k (subst (λ n. k < n) long h)))
+-- a miss that was found before is the lowest of one number more
+miss_kept : (p : ℕ → Bool) (k i : ℕ) → Some i ≡ lowest p 0 k → Some i ≡ lowest p 0 (k + 1)
+miss_kept p k i e = sym (lowest_kept p 0 k i (sym e)) ∙ ap (lowest p 0) (sym (add-one k))
 
--- one slot more has grown older
-module _ (xs ys : List Slot) (k : ℕ) (within : k < length ys) (done : (i : ℕ) → i < k → at ys i ≡ older (at xs i)) (rest : (i : ℕ) → k ≤ i → at ys i ≡ at xs i) where
-  pub grown_more : (i : ℕ) → i < k + 1 → at (set ys k (older (at ys k))) i ≡ older (at xs i)
-  grown_more i h =
-      elim (cases_eq i k) [
-        | inl e ↦ ap (at (set ys k (older (at ys k)))) e ∙ get_or-set_same ys k (older (at ys k)) nothing within ∙ ap older (rest k (omega arith)) ∙ ap (λ n. older (at xs n)) (sym e)
-        | inr ne ↦ get_or-set_other ys k i (older (at ys k)) nothing ne ∙ done i (omega arith)
-      ]
-
-  pub grown_rest : (i : ℕ) → k + 1 ≤ i → at (set ys k (older (at ys k))) i ≡ at xs i
-  grown_rest i h = let ne : i ≢ k = omega arith in get_or-set_other ys k i (older (at ys k)) nothing ne ∙ rest i (omega arith)
-
-  -- the slot just written
-  pub grown_here : at (set ys k (older (at ys k))) k ≡ older (at xs k)
-  grown_here = grown_more k (omega arith)
-
--- the loop's step: a miss was found before, is found here, or is not found here
-pub miss_kept : (p : ℕ → Bool) (k : ℕ) (m : Option ℕ) → is_some m ≡ true → m ≡ lowest p 0 k → m ≡ lowest p 0 (k + 1)
-miss_kept p k None f e = absurd (false≢true f)
-miss_kept p k (Some i) f e = sym (lowest_kept p 0 k i (sym e)) ∙ ap (lowest p 0) (sym (add-one k))
-
-pub miss_found : (p : ℕ → Bool) (k : ℕ) (m : Option ℕ) → is_some m ≡ false → m ≡ lowest p 0 k → p k ≡ true → Some k ≡ lowest p 0 (k + 1)
-miss_found p k None f e here = sym (lowest_found p 0 k k (omega arith) (sym e) here) ∙ ap (lowest p 0) (sym (add-one k))
-miss_found p k (Some i) f e here = absurd (true≢false f)
+-- the loop's step at a late task, and at another
+pub miss_found : (p : ℕ → Bool) (k : ℕ) (m : Option ℕ) → m ≡ lowest p 0 k → p k ≡ true → option_or m (Some k) ≡ lowest p 0 (k + 1)
+miss_found p k None e here = sym (lowest_found p 0 k k (omega arith) (sym e) here) ∙ ap (lowest p 0) (sym (add-one k))
+miss_found p k (Some i) e here = miss_kept p k i e
 
 pub miss_passed : (p : ℕ → Bool) (k : ℕ) (m : Option ℕ) → m ≡ lowest p 0 k → p k ≡ false → m ≡ lowest p 0 (k + 1)
 miss_passed p k None e here = sym (lowest_passed p 0 k k (omega arith) (sym e) here) ∙ ap (lowest p 0) (sym (add-one k))
-miss_passed p k (Some i) e here = miss_kept p k (Some i) refl e
+miss_passed p k (Some i) e here = miss_kept p k i e
 
 -- no task so far has come to its period, nor has this one
 pub none_due_more : (q : ℕ → Bool) (due here : Bool) (k : ℕ) → (due ≡ false → (i : ℕ) → i < k → q i ≡ false) → here ≡ q k → (due || here) ≡ false → (i : ℕ) → i < k + 1 → q i ≡ false

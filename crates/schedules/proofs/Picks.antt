@@ -1,5 +1,5 @@
 -- The job that is picked: it is ready, and under a lawful meaning it is ahead of every other ready job.
-use Rattle.std.proofs.Common.{◌≡◌, ℕ, zero, suc, ◌+◌, ◌-◌, ◌<◌, ◌≤◌, Bool, true, false, cond, ltb, ◌≢◌, List, [], ◌∷◌, length, take, Some, None, Option, sym, refl, ap, ◌∙◌, subst, inl, inr, add-zero, zero-add, arith}
+use Rattle.std.proofs.Common.{◌≡◌, ℕ, zero, suc, ◌+◌, ◌<◌, ◌≤◌, Bool, true, false, cond, ltb, ◌≢◌, List, [], ◌∷◌, length, Some, None, Option, sym, refl, ap, ◌∙◌, subst, inl, inr, add-zero, zero-add, arith}
 use Rattle.std.specs.Option.{option_map}
 use Rattle.std.specs.List.{AllByRecursion}
 use Rattle.std.proofs.lemmas.Bool.{ltb-true, lt-ltb, cases_lt}
@@ -7,7 +7,7 @@ use Rattle.std.proofs.lemmas.List.{get_or_past}
 use Rattle.orderings.specs.Meaning.{Meaning, InRange, Exclusive, Transitive}
 use Rattle.schedules.specs.declared.slot.Slot.{Slot}
 use Rattle.firsts.specs.declared.job.Job.{Job}
-use Rattle.firsts.specs.First.{In, Distinct, ExclusiveOn, TransitiveOn, Leads, IsFirst, first_in_order}
+use Rattle.firsts.specs.First.{In, Distinct, ExclusiveOn, TransitiveOn, Leads, IsFirst}
 use Rattle.schedules.specs.Units.{nothing, at, Ready, ready_from, picked, under, AheadOfAllReady}
 use Rattle.firsts.proofs.Firsts.{first_leads, first_in, all_in}
 
@@ -118,9 +118,3 @@ module _ (m : Meaning) (ex : Exclusive m) (tr : Transitive m) (ss : List Slot) (
 -- the same of what is picked, once it is known
 pub picks : (m : Meaning) → Exclusive m → Transitive m → (ss : List Slot) → Counted ss → (p : Option Job) → picked m ss ≡ p → AheadOfAllReady m ss (option_map (λ j. j.task) p)
 picks m ex tr ss c p e = subst (λ o. AheadOfAllReady m ss (option_map (λ j. j.task) o)) e (picked_ahead m ex tr ss c)
-
--- the first of the gathered jobs is a ready job
-pub first_gathered_ready : (m : Meaning) (ss : List Slot) (jobs : List Job) (n : ℕ) (j : Job) → Some j ≡ first_in_order (under m) (take (n - 0) jobs) → take n jobs ≡ ready_from 0 ss → IsReady ss j
-first_gathered_ready m ss jobs n j e gathered =
-    let same : n - 0 ≡ n = omega arith in
-    picked_ready m ss j (sym (e ∙ ap (λ k. first_in_order (under m) (take k jobs)) same ∙ ap (first_in_order (under m)) gathered))

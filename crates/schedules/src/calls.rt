@@ -1,4 +1,4 @@
-ghost use Rattle.std.specs.Prelude.{◌≡◌, IfOk, OnErr};
+ghost use Rattle.std.specs.Prelude.{◌≡◌, IfOk, OnErr, slice_get};
 ghost use Rattle.tables.specs.Tables.{tasks_of};
 ghost use Rattle.schedules.specs.Units.{AheadOfAllReady, LowestLate};
 ghost use Rattle.schedules.specs.Runs.{fresh, unit_end, ticked, tick_answer, finished, finish_answer, age_answer, left_answer};
@@ -6,7 +6,7 @@ ghost use Rattle.schedules.specs.Views.{table_of_run, tasks_of_run, ordering_of_
 
 use crate::run::Run;
 use crate::slot::{Progress, Slot};
-use crate::steps::{fill, front_unit};
+use crate::steps::fill;
 use firsts::job::Job;
 use orderings::ordering::Ordering;
 use refusals::kinds::{FinishRefusal, QuestionRefusal, TickRefusal};
@@ -46,15 +46,9 @@ impl<'t, 'o, O: Ordering> Run<'t, 'o, O> {
         if self.progress.ended {
             return Err(TickRefusal::RunEnded);
         }
-        let (ran, miss) = front_unit(
-            self.table.tasks(),
-            &mut self.progress.slots,
-            &mut self.ready,
-            self.ordering,
-        );
-        if miss.is_some() {
-            self.progress.ended = true;
-        }
+        let ran = self.serve();
+        let miss = self.advance();
+        // a pair, as the specification asks for
         Ok((ran, miss))
     }
 
@@ -69,38 +63,35 @@ impl<'t, 'o, O: Ordering> Run<'t, 'o, O> {
         if self.progress.ended {
             return Err(FinishRefusal::RunEnded);
         }
-        let k = i as usize;
-        if k >= self.table.len() {
-            return Err(FinishRefusal::NoSuchTask);
-        }
-        if self.progress.slots[k].left == 0 {
+        let slot = self.slot(i).ok_or(FinishRefusal::NoSuchTask)?;
+        if slot.left == 0 {
             return Err(FinishRefusal::NotReady);
         }
-        self.progress.slots[k].left = 0;
+        self.progress.slots[i as usize].left = 0;
         Ok(())
+    }
+
+    // The slot of a task's present job, or none where the table has no such number.
+    fn slot(&self, i: u32) -> Option<Slot>
+        ensures { result ≡ slice_get (state_of_run self.now).slots i }
+    {
+        let n = self.table.len();
+        self.progress.slots[..n].get(i as usize).copied()
     }
 
     /// The units since the release of a task's present job. It works on an ended run, too.
     pub fn age(&self, i: u32) -> Result<u32, QuestionRefusal>
         ensures { result ≡ age_answer (state_of_run self.now) i }
     {
-        let k = i as usize;
-        if k < self.table.len() {
-            Ok(self.progress.slots[k].age)
-        } else {
-            Err(QuestionRefusal::NoSuchTask)
-        }
+        let slot = self.slot(i).ok_or(QuestionRefusal::NoSuchTask)?;
+        Ok(slot.age)
     }
 
     /// The units that a task's present job may still use. It works on an ended run, too.
     pub fn left(&self, i: u32) -> Result<u32, QuestionRefusal>
         ensures { result ≡ left_answer (state_of_run self.now) i }
     {
-        let k = i as usize;
-        if k < self.table.len() {
-            Ok(self.progress.slots[k].left)
-        } else {
-            Err(QuestionRefusal::NoSuchTask)
-        }
+        let slot = self.slot(i).ok_or(QuestionRefusal::NoSuchTask)?;
+        Ok(slot.left)
     }
 }

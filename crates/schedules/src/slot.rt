@@ -11,6 +11,6 @@ pub struct Slot {
 #[derive(Clone, Copy)]
 pub struct Progress {
     pub slots: [Slot; 32],
-    /// Whether the run came to a miss.
+    /// Whether the run came to a miss. The slots mean the same then: an enum of both cases would hold them twice.
     pub ended: bool,
 }

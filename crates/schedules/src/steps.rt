@@ -2,8 +2,10 @@ ghost use Rattle.std.specs.Prelude.{◌≡◌, ℕ, ◌+◌, ◌^◌, ◌<◌, �
 ghost use Rattle.std.specs.Option.{option_map};
 ghost use Rattle.tables.specs.Tasks.{nobody};
 ghost use Rattle.schedules.specs.Units.{at, ready_from, picked, served, older, late, missed, released, renewed};
-ghost use Rattle.schedules.specs.Runs.{closed, advanced};
+ghost use Rattle.schedules.specs.Runs.{advanced};
+ghost use Rattle.schedules.specs.Views.{tasks_of_run, ordering_of_run, state_of_run};
 
+use crate::run::Run;
 use crate::slot::Slot;
 use firsts::job::Job;
 use firsts::order::first;
@@ -11,6 +13,7 @@ use orderings::ordering::Ordering;
 use tables::task::Task;
 
 // Gathers the ready jobs at the front of `ready`, in the order of their numbers, and tells how many there are.
+// It tells a number and lends no slice: of the length of what a result was lent from, a proof knows nothing afterwards.
 fn gather(slots: &[Slot], ready: &mut [Job]) -> usize
     requires few { length slots.now ≤ 32 }
     requires room { length slots.now ≤ length ready.old }
@@ -18,33 +21,15 @@ fn gather(slots: &[Slot], ready: &mut [Job]) -> usize
     ensures bound { result ≤ length slots.now }
 {
     let mut n = 0;
-    for k in 0..slots.len() {
+    for (k, slot) in slots.iter().enumerate() {
         // written in any case, and counted if ready: the processor then has nothing to guess
         ready[n] = Job {
             task: k as u32,
-            age: slots[k].age,
+            age: slot.age,
         };
-        n += usize::from(slots[k].left > 0);
+        n += usize::from(slot.left > 0);
     }
     n
-}
-
-// The first half of a unit: the ready job that is ahead of all other ready ones loses one unit.
-fn serve<O: Ordering>(slots: &mut [Slot], ready: &mut [Job], ordering: &O) -> Option<u32>
-    requires few { length slots.old ≤ 32 }
-    requires room { length slots.old ≤ length ready.old }
-    ensures ran { result ≡ option_map (λ j. j.task) (picked (O.ahead ordering.now) slots.old) }
-    ensures after { slots.new ≡ served (O.ahead ordering.now) slots.old }
-{
-    let n = gather(slots, ready);
-    match first(&ready[0..n], ordering) {
-        Some(j) => {
-            let task = j.task;
-            slots[task as usize].left -= 1;
-            Some(task)
-        }
-        None => None,
-    }
 }
 
 // Has the job come to its deadline with units left?
@@ -74,14 +59,26 @@ fn grow(tasks: &[Task], slots: &mut [Slot]) -> Grown
 {
     let mut miss = None;
     let mut due = false;
-    for k in 0..slots.len() {
-        slots[k].age += 1;
-        if is_late(&tasks[k], &slots[k]) && miss.is_none() {
-            miss = Some(k as u32);
+    // no zip with the tasks: a proof knows nothing of slots that were lent through one
+    for (k, slot) in slots.iter_mut().enumerate() {
+        let task = &tasks[k];
+        slot.age += 1;
+        if is_late(task, slot) {
+            miss = miss.or(Some(k as u32));
         }
-        due = due | (slots[k].age == tasks[k].t);
+        due |= slot.age == task.t;
     }
     Grown { miss, due }
+}
+
+// The slot of a job of this task at its release.
+fn fresh_slot(task: &Task) -> Slot
+    ensures { result ≡ released task.now }
+{
+    Slot {
+        age: 0,
+        left: task.c,
+    }
 }
 
 // Each task of age T gets its next job, of age 0 and with its whole budget.
@@ -89,66 +86,49 @@ fn release(tasks: &[Task], slots: &mut [Slot])
     requires { length slots.old ≤ length tasks.now }
     ensures { slots.new ≡ renewed tasks.now slots.old }
 {
-    for k in 0..slots.len() {
-        let t = tasks[k];
-        if slots[k].age == t.t {
-            slots[k] = Slot { age: 0, left: t.c };
+    // no zip, as in `grow`
+    for (k, slot) in slots.iter_mut().enumerate() {
+        let task = &tasks[k];
+        if slot.age == task.t {
+            *slot = fresh_slot(task);
         }
     }
 }
 
-// The second half of a unit: ages rise, then a miss is told or jobs are released.
-fn advance(tasks: &[Task], slots: &mut [Slot]) -> Option<u32>
-    requires few { length slots.old ≤ 32 }
-    requires long { length slots.old ≤ length tasks.now }
-    requires young { (k : ℕ) → k < length slots.old → (at slots.old k).age + 1 < 2 ^ 32 }
-    ensures miss { result ≡ missed tasks.now (map older slots.old) }
-    ensures after { slots.new ≡ (advanced tasks.now slots.old).slots }
-{
-    let grown = grow(tasks, slots);
-    if grown.due && grown.miss.is_none() {
-        release(tasks, slots);
+impl<'t, 'o, O: Ordering> Run<'t, 'o, O> {
+    // The first half of a unit: the ready job that is ahead of all other ready ones loses one unit.
+    pub(crate) fn serve(&mut self) -> Option<u32>
+        ensures ran { result ≡ option_map (λ j. j.task) (picked (O.ahead (ordering_of_run self.old)) (state_of_run self.old).slots) }
+        ensures slots { (state_of_run self.new).slots ≡ served (O.ahead (ordering_of_run self.old)) (state_of_run self.old).slots }
+        ensures goes_on { self.new.progress.ended ≡ self.old.progress.ended }
+        ensures keeps_table { self.new.table ≡ self.old.table }
+        ensures keeps_ordering { self.new.ordering ≡ self.old.ordering }
+    {
+        let n = self.table.len();
+        let count = gather(&self.progress.slots[..n], &mut self.ready);
+        let task = first(&self.ready[..count], self.ordering)?.task;
+        self.progress.slots[task as usize].left -= 1;
+        Some(task)
     }
-    grown.miss
-}
 
-// One unit on the slots of all tasks: who ran and who missed.
-fn unit<O: Ordering>(
-    tasks: &[Task],
-    slots: &mut [Slot],
-    ready: &mut [Job],
-    ordering: &O,
-) -> (Option<u32>, Option<u32>)
-    requires few { length slots.old ≤ 32 }
-    requires room { length slots.old ≤ length ready.old }
-    requires long { length slots.old ≤ length tasks.now }
-    requires young { (k : ℕ) → k < length slots.old → (at slots.old k).age + 1 < 2 ^ 32 }
-    ensures ran { result.0 ≡ option_map (λ j. j.task) (picked (O.ahead ordering.now) slots.old) }
-    ensures miss { result.1 ≡ missed tasks.now (map older (served (O.ahead ordering.now) slots.old)) }
-    ensures after { slots.new ≡ (advanced tasks.now (served (O.ahead ordering.now) slots.old)).slots }
-{
-    let ran = serve(slots, ready, ordering);
-    let miss = advance(tasks, slots);
-    (ran, miss)
-}
-
-// One unit on the front slots, one to a task; the slots behind them stay as they are.
-pub(crate) fn front_unit<O: Ordering>(
-    tasks: &[Task],
-    slots: &mut [Slot],
-    ready: &mut [Job],
-    ordering: &O,
-) -> (Option<u32>, Option<u32>)
-    requires few { length tasks.now ≤ 32 }
-    requires room { length tasks.now ≤ length ready.old }
-    requires long { length tasks.now ≤ length slots.old }
-    requires young { (k : ℕ) → k < length tasks.now → (at slots.old k).age + 1 < 2 ^ 32 }
-    ensures ran { result.0 ≡ option_map (λ j. j.task) (picked (O.ahead ordering.now) (take (length tasks.now) slots.old)) }
-    ensures miss { result.1 ≡ missed tasks.now (map older (served (O.ahead ordering.now) (take (length tasks.now) slots.old))) }
-    ensures after { take (length tasks.now) slots.new ≡ (advanced tasks.now (served (O.ahead ordering.now) (take (length tasks.now) slots.old))).slots }
-{
-    let n = tasks.len();
-    unit(tasks, &mut slots[..n], ready, ordering)
+    // The second half of a unit: ages rise, then a miss is told or jobs are released.
+    pub(crate) fn advance(&mut self) -> Option<u32>
+        requires { self.old.progress.ended ≡ false }
+        ensures miss { result ≡ missed (tasks_of_run self.old) (map older (state_of_run self.old).slots) }
+        ensures state { state_of_run self.new ≡ advanced (tasks_of_run self.old) (state_of_run self.old).slots }
+        ensures keeps_table { self.new.table ≡ self.old.table }
+        ensures keeps_ordering { self.new.ordering ≡ self.old.ordering }
+    {
+        let tasks = self.table.tasks();
+        let progress = &mut self.progress;
+        let slots = &mut progress.slots[..tasks.len()];
+        let grown = grow(tasks, slots);
+        if grown.due && grown.miss.is_none() {
+            release(tasks, slots);
+        }
+        progress.ended = grown.miss.is_some();
+        grown.miss
+    }
 }
 
 // Each task's first job in the slot of its number.
@@ -156,10 +136,8 @@ pub(crate) fn fill(tasks: &[Task], slots: &mut [Slot])
     requires { length tasks.now ≤ length slots.old }
     ensures { (k : ℕ) → k < length tasks.now → at slots.new k ≡ released (slice_index_or tasks.now k nobody) }
 {
-    for k in 0..tasks.len() {
-        slots[k] = Slot {
-            age: 0,
-            left: tasks[k].c,
-        };
+    // no zip, as in `grow`
+    for (k, task) in tasks.iter().enumerate() {
+        slots[k] = fresh_slot(task);
     }
 }

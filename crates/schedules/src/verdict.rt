@@ -18,6 +18,7 @@ pub struct Miss {
 }
 
 /// Whether all jobs of the endless full schedule meet their deadlines.
+// no Option: the specification wants an enum whose miss case holds the record
 #[derive(Clone, Copy, Debug, PartialEq, Eq)]
 pub enum Verdict {
     Holds,
@@ -35,17 +36,15 @@ impl Verdict {
     {
         let mut run = Run::new(table, ordering);
         for n in 0..table.hyperperiod() {
-            match run.tick() {
-                Ok((_, miss)) => {
-                    if let Some(task) = miss {
-                        return Verdict::Misses(Miss {
-                            task,
-                            instant: n + 1,
-                        });
-                    }
-                }
-                // a run that has come to no miss has not ended
-                Err(_) => unreachable(),
+            // a run that has come to no miss has not ended
+            let Ok((_, miss)) = run.tick() else {
+                unreachable()
+            };
+            if let Some(task) = miss {
+                return Verdict::Misses(Miss {
+                    task,
+                    instant: n + 1,
+                });
             }
         }
         Verdict::Holds

@@ -45,10 +45,8 @@ impl<O: Ordering> Search<O> {
     pub fn promotion(&self, i: u32) -> Result<u32, QuestionRefusal>
         ensures { result ≡ promotion_answer (trial_of self.now) i }
     {
-        match self.table().get(i) {
-            Some(task) => Ok(task.s),
-            None => Err(QuestionRefusal::NoSuchTask),
-        }
+        let task = self.table().get(i).ok_or(QuestionRefusal::NoSuchTask)?;
+        Ok(task.s)
     }
 
     /// The table with the promotion times of the search.

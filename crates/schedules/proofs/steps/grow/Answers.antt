@@ -1,13 +1,13 @@
-use Rattle.std.proofs.Common.{◌≡◌, ℕ, ◌+◌, ◌<◌, Bool, not, eqb, map, length, get_or, sym, ap, ◌∙◌, arith}
-use Rattle.std.proofs.lemmas.List.{length-map}
+use Rattle.std.proofs.Common.{rules, ◌≡◌, ℕ, ◌+◌, Bool, eqb, map, length, get_or, sym, ap, ◌∙◌, arith}
+use Rattle.std.proofs.lemmas.List.{ext_get_or, length-map}
 use Rattle.tables.specs.Tasks.{nobody}
 use Rattle.firsts.specs.Lowest.{lowest}
-use Rattle.schedules.specs.Units.{at, older, late}
+use Rattle.schedules.specs.Units.{nothing, at, older, late}
 use Rattle.schedules.proofs.Slots.{older_at}
 use Rattle.firsts.proofs.Lowests.{lowest_same}
-use Rattle.schedules.proofs.Loops.{grown, grown_more, grown_rest, grown_here, miss_kept, miss_found, miss_passed, none_due_more}
+use Rattle.schedules.proofs.Loops.{miss_found, miss_passed, none_due_more}
 use Rattle.schedules.proofs.steps.grow.Goals as goal
-use Rattle.schedules.proofs.steps.grow.Goals.{then-is_late+then-is_none, else-is_late, else-is_late-via-then-is_late+else-is_none, else-is_late-via-else-is_late}
+use Rattle.schedules.proofs.steps.grow.Goals.{then-is_late, else-is_late}
 
 pub loop-k-preserved : goal.loop-k-preserved
 loop-k-preserved c =
@@ -15,19 +15,16 @@ loop-k-preserved c =
     let ts = c.args.tasks.now in
     let ys = c.loop-k.slots in
     let k = c.loop-k.k in
-    let within : k < length ys = omega arith in
     let inv = c.loop-k.invariant in
+    let e : older (at ys k) ≡ older (at xs k) = ap older (inv.1 k (omega arith)) in
     let p : ℕ → Bool = λ i. late (get_or c.args.tasks.now i nobody) (older (at xs i)) in
-    let here : c.is_late.result ≡ p k = c.is_late.ensures ∙ ap (late (get_or c.args.tasks.now k nobody)) (grown_here xs ys k within inv.0 inv.1) in (
-      grown_more xs ys k within inv.0 inv.1,
-      grown_rest xs ys k within inv.0 inv.1,
-      none_due_more (λ i. eqb ((at xs i).age + 1) (get_or ts i nobody).t) c.loop-k.due _ k inv.2 (ap (λ x. eqb x.age (get_or ts k nobody).t) (grown_here xs ys k within inv.0 inv.1)),
+    let here : c.is_late.result ≡ p k = c.is_late.ensures ∙ ap (late (get_or c.args.tasks.now k nobody)) e in (
+      (search rules),
+      (search rules),
+      none_due_more (λ i. eqb ((at xs i).age + 1) (get_or ts i nobody).t) c.loop-k.due _ k inv.2 (ap (λ x. eqb x.age (get_or ts k nobody).t) e),
       elim c.if-is_late.branch [
-        | then-is_late+then-is_none w ↦ w.miss-is ∙ miss_found p k c.loop-k.miss (w.is_none.ensures ∙ ap not w.if-is_none.true) inv.3 (sym here ∙ w.if-is_late.true)
-        | else-is_late w ↦ w.miss-is ∙ (elim w.else-is_late.branch [
-          | else-is_late-via-then-is_late+else-is_none w' ↦ miss_kept p k c.loop-k.miss (w'.is_none.ensures ∙ ap not w'.if-is_none.false) inv.3
-          | else-is_late-via-else-is_late w' ↦ miss_passed p k c.loop-k.miss inv.3 (sym here ∙ w'.if-is_late.false)
-        ])
+        | then-is_late w ↦ w.miss-is ∙ w.or-miss.ensures ∙ miss_found p k c.loop-k.miss inv.3 (sym here ∙ w.if-is_late.true)
+        | else-is_late w ↦ w.miss-is ∙ miss_passed p k c.loop-k.miss inv.3 (sym here ∙ w.if-is_late.false)
       ],
     )
 
@@ -38,7 +35,7 @@ returns c =
     let n : length (map older xs) ≡ length xs = length-map xs older in
     let all : c.loop-k.k ≡ length (map older xs) = omega arith in
     record {
-      after = grown xs c.loop-k.slots c.loop-k.auto.slots (λ i h. c.loop-k.invariant.0 i (omega arith));
+      after = ext_get_or nothing c.loop-k.slots (map older xs) (c.loop-k.auto.slots ∙ sym n) (λ i h. c.loop-k.invariant.0 i (omega arith) ∙ sym (older_at xs i (omega arith)));
       due = λ none k h. ap (λ x. eqb x.age (get_or ts k nobody).t) (c.loop-k.invariant.0 k (omega arith)) ∙ c.loop-k.invariant.2 none k (omega arith);
       miss = c.loop-k.invariant.3 ∙ ap (lowest (λ i. late (get_or ts i nobody) (older (at xs i))) 0) all
           ∙ lowest_same (λ i. late (get_or ts i nobody) (older (at xs i))) (λ i. late (get_or ts i nobody) (at (map older xs) i)) 0 (length (map older xs))

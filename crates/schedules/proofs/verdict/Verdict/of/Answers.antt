@@ -1,4 +1,4 @@
-use Rattle.std.proofs.Common.{◌≡◌, ℕ, ◌+◌, ◌-◌, ◌<◌, ◌≤◌, List, Some, None, sym, ap, ◌∙◌, inl, inr, arith}
+use Rattle.std.proofs.Common.{◌≡◌, ℕ, ◌+◌, ◌-◌, ◌<◌, ◌≤◌, false, List, Some, None, sym, ap, ◌∙◌, inl, inr, arith}
 use Rattle.std.proofs.lemmas.Bool.{cases_lt}
 use Rattle.tables.specs.declared.task.Task.{Task}
 use Rattle.tables.specs.declared.table.Table.{Table}
@@ -15,7 +15,9 @@ use Rattle.schedules.proofs.Alive.{stays_within, says_of_live}
 use Rattle.schedules.proofs.Behind.{holds_behind}
 use Rattle.schedules.proofs.Endless.{going, never_misses}
 use Rattle.schedules.proofs.Judged.{answer_miss, answer_refused, judged_miss, judged_more, judged_end, miss_next, full_next}
+use Rattle.schedules.proofs.verdict.Verdict.of.Given.{Over}
 use Rattle.schedules.proofs.verdict.Verdict.of.Goals as goal
+use Rattle.schedules.proofs.verdict.Verdict.of.Goals.{After-tick}
 
 -- a call on the run is that call on the full schedule's state
 same-call : {O Y : Type 0} (ahead : O → Meaning) (F : List Task → Meaning → State → Y) (t t' : Table) (o o' : O) (st st' : State)
@@ -41,18 +43,25 @@ loop-n-init g c =
           ap (λ f. judged (tasks_of t) m None f 0 (full (tasks_of t) m 0)) e),
     )
 
+-- the full schedule goes on at instant n, and the run's tick answers what its tick does
+on : (g : Over) (c : After-tick g) → (full (tasks_of c.args.table.now) (g.O.Ordering.ahead c.args.ordering.now) c.loop-n.n).ended ≡ false
+on g c = (going _ _ c.args.table.now.timed c.loop-n.n c.loop-n.invariant.3).on
+
+told : (g : Over) (c : After-tick g)
+    → c.tick.result ≡ tick_answer (tasks_of c.args.table.now) (g.O.Ordering.ahead c.args.ordering.now) (full (tasks_of c.args.table.now) (g.O.Ordering.ahead c.args.ordering.now) c.loop-n.n)
+told g c =
+    let inv = c.loop-n.invariant in
+    c.tick.ensures.answer ∙ same-call g.O.Ordering.ahead tick_answer c.args.table.now c.loop-n.run.table.now c.args.ordering.now c.loop-n.run.ordering.now _ (state_of_run c.loop-n.run) inv.0 inv.1 inv.2
+
 pub returns-in-Some : goal.returns-in-Some
 returns-in-Some g c =
     let t = c.args.table.now in
     let ts = tasks_of t in
-    let ahead = g.O.Ordering.ahead in
-    let m = ahead c.args.ordering.now in
+    let m = g.O.Ordering.ahead c.args.ordering.now in
     let n = c.loop-n.n in
-    let run = c.loop-n.run in
     let inv = c.loop-n.invariant in
-    let on = (going ts m t.timed n inv.3).on in
-    let miss = answer_miss ts m (full ts m n) _ c.in-Ok.miss on
-    (c.in-Ok.ensures.answer ∙ same-call ahead tick_answer t run.table.now c.args.ordering.now run.ordering.now (full ts m n) (state_of_run run) inv.0 inv.1 inv.2) ∙ c.in-Some.is in
+    let after = (goal.at.returns-in-Some g c).After-tick in
+    let miss = answer_miss ts m (full ts m n) _ c.in-Ok.miss (on g after) (sym c.in-Ok.is ∙ told g after) ∙ c.in-Some.is in
     let ex = g.met.O.Ordering.exclusive c.args.ordering.now in
     let tr = g.met.O.Ordering.transitive c.args.ordering.now in
     let first : (full_miss ts m (n + 1) ≡ Some c.in-Some.task) × ((k : ℕ) → k < n + 1 → full_miss ts m k ≡ None) = (miss_next ts m n ∙ miss, λ k h. inv.3 k (omega arith)) in
@@ -66,16 +75,10 @@ returns-in-Some g c =
 
 pub unreachable-requires : goal.unreachable-requires
 unreachable-requires g c =
-    let t = c.args.table.now in
-    let ts = tasks_of t in
-    let ahead = g.O.Ordering.ahead in
-    let m = ahead c.args.ordering.now in
-    let n = c.loop-n.n in
-    let run = c.loop-n.run in
-    let inv = c.loop-n.invariant in
-    let on = (going ts m t.timed n inv.3).on in
-    answer_refused ts m (full ts m n) _ on
-    (c.in-Err.ensures.answer ∙ same-call ahead tick_answer t run.table.now c.args.ordering.now run.ordering.now (full ts m n) (state_of_run run) inv.0 inv.1 inv.2)
+    let ts = tasks_of c.args.table.now in
+    let m = g.O.Ordering.ahead c.args.ordering.now in
+    let after = (goal.at.unreachable-requires g c).After-tick in
+    answer_refused ts m (full ts m c.loop-n.n) _ (on g after) (sym c.in_default.is ∙ told g after)
 
 pub loop-n-preserved : goal.loop-n-preserved
 loop-n-preserved g c =
@@ -86,10 +89,9 @@ loop-n-preserved g c =
     let n = c.loop-n.n in
     let run = c.loop-n.run in
     let inv = c.loop-n.invariant in
-    let e = c.in-Ok.ensures in
-    let on = (going ts m t.timed n inv.3).on in
-    let miss = answer_miss ts m (full ts m n) _ c.in-Ok.miss on
-    (e.answer ∙ same-call ahead tick_answer t run.table.now c.args.ordering.now run.ordering.now (full ts m n) (state_of_run run) inv.0 inv.1 inv.2) ∙ c.in_default.is in
+    let e = c.tick.ensures in
+    let after = (goal.at.loop-n-preserved g c).After-tick in
+    let miss = answer_miss ts m (full ts m n) _ c.in-Ok.miss (on g after) (sym c.in-Ok.is ∙ told g after) ∙ c.in_default-miss.is in
     let state : state_of_run c.tick.new.self ≡ full ts m (n + 1) =
     e.after
     ∙ same-call ahead ticked t run.table.now c.args.ordering.now run.ordering.now (full ts m n) (state_of_run run) inv.0 inv.1 inv.2
