@@ -1,13 +1,12 @@
 use refusals::kinds::ReadRefusal;
-use schedules::verdict::Miss;
+use schedules::verdict::Verdict;
 
-/// What a table text is answered. A number beside a verdict is the table's hyperperiod.
+/// What is told of a table: the verdict on it and its hyperperiod.
 #[derive(Clone, Copy)]
-pub enum Answer {
-    /// No tick of the endless full schedule misses.
-    Holds(u32),
-    /// The first miss of the full schedule.
-    Misses(Miss, u32),
-    /// The text is not a table's.
-    Refused(ReadRefusal),
+pub struct Judged {
+    pub verdict: Verdict,
+    pub hyperperiod: u32,
 }
+
+/// What a table text is answered: what is told of its table, or why the text is not a table's.
+pub type Answer = Result<Judged, ReadRefusal>;

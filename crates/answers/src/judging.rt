@@ -1,21 +1,11 @@
 ghost use Rattle.std.specs.Prelude.{◌≡◌};
-ghost use Rattle.answers.specs.Answers.{answer_by_verdict, answer_to, TrueOf};
+ghost use Rattle.answers.specs.Answers.{answer_to, TrueOf};
 
-use crate::answer::Answer;
+use crate::answer::{Answer, Judged};
 use orderings::two_phase::TwoPhase;
 use schedules::verdict::Verdict;
 use table_text::reading::read;
 use tables::table::Table;
-
-/// The answer that tells a verdict and the hyperperiod of its table.
-pub fn answer_by(verdict: Verdict, hyperperiod: u32) -> Answer
-    ensures { result ≡ answer_by_verdict hyperperiod verdict }
-{
-    match verdict {
-        Verdict::Holds => Answer::Holds(hyperperiod),
-        Verdict::Misses(miss) => Answer::Misses(miss, hyperperiod),
-    }
-}
 
 /// Reads a table text and judges its table under the two-phase ordering.
 pub fn judge(text: &[u8]) -> Answer
@@ -23,11 +13,10 @@ pub fn judge(text: &[u8]) -> Answer
     ensures true_of_the_endless_schedule { TrueOf text.now result }
 {
     let mut table = Table::new();
-    match read(text, &mut table) {
-        Err(e) => Answer::Refused(e),
-        Ok(_) => {
-            let ordering = TwoPhase::new(&table);
-            answer_by(Verdict::of(&table, &ordering), table.hyperperiod())
-        }
-    }
+    read(text, &mut table)?;
+    let ordering = TwoPhase::new(&table);
+    Ok(Judged {
+        verdict: Verdict::of(&table, &ordering),
+        hyperperiod: table.hyperperiod(),
+    })
 }

@@ -1,61 +1,59 @@
 ghost use Rattle.std.specs.Prelude.{◌≡◌, ◌≤◌, length};
 ghost use Rattle.texts.specs.Texts.{bytes_of, pushed};
-ghost use Rattle.answers.specs.Texts.{word_text, column, columns_of, columns_text, answer_text};
+ghost use Rattle.answers.specs.Texts.{column, judged_columns, refused_columns, columns_of, columns_text, answer_text};
 
-use crate::answer::Answer;
+use crate::answer::{Answer, Judged};
 use crate::columns::{Columns, Word};
-use refusals::kinds::Refusal;
+use refusals::kinds::{ReadRefusal, Refusal};
+use schedules::verdict::Verdict;
 use texts::text::Line;
 
 const HEADER: [u8; 54] = *b"answer,task,instant,hyperperiod,refusal,record,field\r\n";
 
 const LINE_END: [u8; 2] = *b"\r\n";
 
+// The fields of the record that tells of a table.
+fn judged_columns(judged: Judged) -> Columns
+    ensures { result ≡ judged_columns judged.hyperperiod judged.verdict }
+{
+    let hyperperiod = Some(judged.hyperperiod);
+    match judged.verdict {
+        Verdict::Holds => Columns {
+            word: Word::Holds,
+            hyperperiod,
+            ..Columns::BARE
+        },
+        Verdict::Misses(miss) => Columns {
+            word: Word::Miss,
+            task: Some(miss.task),
+            instant: Some(miss.instant),
+            hyperperiod,
+            ..Columns::BARE
+        },
+    }
+}
+
+// The fields of the record that tells why a text is not a table's.
+fn refused_columns(e: ReadRefusal) -> Columns
+    ensures { result ≡ refused_columns e }
+{
+    let refusal = Refusal::Reading(e);
+    let place = refusal.place();
+    Columns {
+        refusal: Some(refusal.number()),
+        row: place.map(|place| place.row),
+        field: place.map(|place| place.field),
+        ..Columns::BARE
+    }
+}
+
 // The fields of an answer's record.
 fn columns(answer: &Answer) -> Columns
     ensures { result ≡ columns_of answer.now }
 {
-    let mut columns = Columns {
-        word: Word::Refused,
-        task: None,
-        instant: None,
-        hyperperiod: None,
-        refusal: None,
-        row: None,
-        field: None,
-    };
     match *answer {
-        Answer::Holds(hyperperiod) => {
-            columns.word = Word::Holds;
-            columns.hyperperiod = Some(hyperperiod);
-        }
-        Answer::Misses(miss, hyperperiod) => {
-            columns.word = Word::Miss;
-            columns.task = Some(miss.task);
-            columns.instant = Some(miss.instant);
-            columns.hyperperiod = Some(hyperperiod);
-        }
-        Answer::Refused(e) => {
-            let refusal = Refusal::Reading(e);
-            columns.refusal = Some(refusal.number());
-            if let Some(place) = refusal.place() {
-                columns.row = Some(place.row);
-                columns.field = Some(place.field);
-            }
-        }
-    }
-    columns
-}
-
-// The answer's first field: at most 7 bytes.
-fn push_word(line: &mut Line, word: Word)
-    ensures after { bytes_of line.new ≡ pushed 160 (bytes_of line.old) (word_text word) }
-    ensures short { length (word_text word) ≤ 7 }
-{
-    match word {
-        Word::Holds => line.push_bytes(b"holds"),
-        Word::Miss => line.push_bytes(b"miss"),
-        Word::Refused => line.push_bytes(b"refused"),
+        Ok(judged) => judged_columns(judged),
+        Err(e) => refused_columns(e),
     }
 }
 
@@ -75,7 +73,7 @@ fn push_columns(line: &mut Line, c: &Columns)
     ensures after { bytes_of line.new ≡ pushed 160 (bytes_of line.old) (columns_text c.now) }
     ensures short { length (columns_text c.now) ≤ 75 }
 {
-    push_word(line, c.word);
+    line.push_bytes(c.word.text().as_bytes());
     push_column(line, c.task);
     push_column(line, c.instant);
     push_column(line, c.hyperperiod);

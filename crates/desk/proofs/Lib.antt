@@ -1,5 +1,4 @@
 mod Names
 mod Lists
-mod Judged
 mod Lengths
 mod Fitting

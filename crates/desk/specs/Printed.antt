@@ -14,7 +14,7 @@ use Rattle.viability.specs.OwnList.{own_list}
 use Rattle.viability.specs.Laxity.{laxity_answer, tasks_after_laxity}
 use Rattle.searches.specs.declared.search.Round.{Round}
 use Rattle.searches.specs.declared.search.Round.TheVariants.{Lowered, Held, Stuck}
-use Rattle.answers.specs.declared.answer.Answer.{Answer}
+use Rattle.answers.specs.Answers.{Answer}
 use Rattle.answers.specs.Texts.{line_end, column, columns_of, columns_text}
 use Rattle.desk.specs.declared.naming.Named.{Named}
 use Rattle.desk.specs.Words.{named_text}

@@ -4,15 +4,13 @@ use Rattle.refusals.specs.declared.kinds.ReadRefusal.{ReadRefusal}
 use Rattle.tables.specs.declared.task.Task.{Task}
 use Rattle.tables.specs.Hyperperiod.{hyperperiod_of, LeastCommonMultiple}
 use Rattle.table_text.specs.Reading.{read_table}
-use Rattle.schedules.specs.Schedule.{verdict_of, NeverMisses, FirstMiss}
-use Rattle.answers.specs.declared.answer.Answer.{Answer}
-use Rattle.answers.specs.declared.answer.Answer.TheVariants.{Holds, Misses, Refused}
-use Rattle.answers.specs.Answers.{answer_by_verdict}
+use Rattle.schedules.specs.Schedule.{verdict_of, SaysOfEndless}
+use Rattle.answers.specs.Answers.{Answer, answer_by_verdict}
 use Rattle.desk.specs.declared.naming.Named.{Named}
 use Rattle.desk.specs.Meanings.{named_meaning}
 
 abbrev pub answer_by_reading : Named → Result (List Task) ReadRefusal → Answer
-answer_by_reading n (Err e) = Refused e
+answer_by_reading n (Err e) = Err e
 answer_by_reading n (Ok ts) = answer_by_verdict (hyperperiod_of ts) (verdict_of ts (named_meaning ts n))
 
 -- the text is read, and its table judged under the ordering
@@ -21,6 +19,5 @@ answer_under n text = answer_by_reading n (read_table text)
 
 -- what an answer says of the text's table, its hyperperiod and its endless full schedule under the ordering
 abbrev pub TrueUnder : Named → List ℕ → Answer → Type 0
-TrueUnder n text (Holds h) = (ts : List Task) × (read_table text ≡ Ok ts) × NeverMisses ts (named_meaning ts n) × LeastCommonMultiple ts h
-TrueUnder n text (Misses x h) = (ts : List Task) × (read_table text ≡ Ok ts) × FirstMiss ts (named_meaning ts n) x.task x.instant × LeastCommonMultiple ts h
-TrueUnder n text (Refused e) = read_table text ≡ Err e
+TrueUnder n text (Ok j) = (ts : List Task) × (read_table text ≡ Ok ts) × SaysOfEndless ts (named_meaning ts n) j.verdict × LeastCommonMultiple ts j.hyperperiod
+TrueUnder n text (Err e) = read_table text ≡ Err e

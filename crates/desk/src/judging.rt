@@ -5,8 +5,7 @@ ghost use Rattle.desk.specs.Meanings.{layered, lowest_of, named_meaning};
 ghost use Rattle.desk.specs.Verdicts.{answer_under, TrueUnder};
 
 use crate::naming::{Base, Named};
-use answers::answer::Answer;
-use answers::judging::answer_by;
+use answers::answer::{Answer, Judged};
 use orderings::background::BackgroundLayer;
 use orderings::deadline::Deadline;
 use orderings::fixed::Fixed;
@@ -60,8 +59,9 @@ pub fn judge_under(text: &[u8], named: Named) -> Answer
     ensures true_of_the_endless_schedule { TrueUnder named text.now result }
 {
     let mut table = Table::new();
-    match read(text, &mut table) {
-        Err(e) => Answer::Refused(e),
-        Ok(_) => answer_by(verdict_under(&table, named), table.hyperperiod()),
-    }
+    read(text, &mut table)?;
+    Ok(Judged {
+        verdict: verdict_under(&table, named),
+        hyperperiod: table.hyperperiod(),
+    })
 }

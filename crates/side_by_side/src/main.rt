@@ -3,7 +3,6 @@
 mod runs;
 
 use crate::runs::{EarlyFinish, Runs, Sides, Standing, agree};
-use answers::answer::Answer;
 use answers::printing::printed;
 use orderings::two_phase::TwoPhase;
 use schedules::verdict::{Miss, Verdict};
@@ -293,7 +292,7 @@ fn main(rt: HostRuntime) -> io::Result<()> {
     let mut table = Table::new();
     match read(&text, &mut table) {
         // as dpverdict answers it
-        Err(e) => rt.stdout().write_all(printed(&Answer::Refused(e)).bytes()),
+        Err(e) => rt.stdout().write_all(printed(&Err(e)).bytes()),
         Ok(_) => tell(&rt, &table),
     }
 }
