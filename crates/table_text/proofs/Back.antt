@@ -8,8 +8,7 @@ use Rattle.std.proofs.lemmas.Bool.Decides.{nat_tests}
 use Rattle.std.proofs.lemmas.Fmt.{decimal_by_steps, length-decimal-le}
 use Rattle.tables.specs.declared.task.Task.{Task}
 use Rattle.tables.specs.Adding.{add_fault, answer_by, tasks_by}
-use Rattle.table_text.specs.declared.parts.Field.{Field}
-use Rattle.table_text.specs.Fields.{in_field, field_length, field_bytes, is_digit, digits_after, plain_number, is_quoted, between_quotes, field_number, field_by, field_at}
+use Rattle.table_text.specs.Fields.{Field, in_field, field_length, field_bytes, is_digit, digits_after, plain_number, is_quoted, between_quotes, field_number, field_by, field_at}
 use Rattle.table_text.specs.Separators.{past_separator}
 use Rattle.table_text.specs.Records.{ended_by, field_then_end, ended_field_at, record_at, progress, row_after}
 use Rattle.table_text.specs.Reading.{after_record, read_records}
