@@ -44,6 +44,7 @@ fn read_records(mut cursor: Cursor) -> Result<Table, ReadRefusal>
 pub const ENOUGH: u64 = 4_097;
 
 /// Reads a table text and puts its table in the target's place. A refused reading leaves the target as it was.
+#[tactic(auto, using(crate::proofs::Steps::table_too_long, crate::proofs::Steps::table_after_header))]
 pub fn read(text: &[u8], target: &mut Table) -> Result<(), ReadRefusal>
     ensures answer { result ≡ read_answer text.now }
     ensures tasks_after { tasks_of target.new ≡ tasks_after_reading (tasks_of target.old) text.now }
