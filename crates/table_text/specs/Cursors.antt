@@ -1,6 +1,7 @@
 -- What the functions that move a cursor answer, told by places of the text.
-use Rattle.std.specs.Prelude.{ℕ, Bool, cond, Some, None, Ok, Err, Option, Result, List}
+use Rattle.std.specs.Prelude.{ℕ, Bool, cond, Some, None, Option, Result, List}
 use Rattle.std.specs.Option.{option_map}
+use Rattle.std.specs.Result.{result_map_both}
 use Rattle.refusals.specs.declared.kinds.ReadRefusal.{ReadRefusal}
 use Rattle.tables.specs.declared.task.Task.{Task}
 use Rattle.tables.specs.declared.table.Table.{Table}
@@ -11,8 +12,7 @@ use Rattle.table_text.specs.Records.{TaskRecord}
 
 -- f of what is read, or the fault
 abbrev pub result_map : {A B E : Type 0} → (A → B) → Result A E → Result B E
-result_map f (Ok x) = Ok (f x)
-result_map f (Err e) = Err e
+result_map f r = result_map_both f (λ e. e) r
 
 -- the place that is come to, where a test is passed
 abbrev pub place_if : Bool → ℕ → Option ℕ
