@@ -1,15 +1,15 @@
 -- What is written is read back: a number, a field, a record, and all records of a table.
-use Rattle.std.proofs.Common.{◌≡◌, ℕ, ◌+◌, ◌-◌, ◌*◌, ◌/◌, ◌%◌, ◌^◌, ◌<◌, ◌≤◌, true, false, ◌&&◌, leb, List, [], ◌∷◌, ◌++◌, length, get_or, take, drop, Some, None, Ok, decimal, sym, refl, ap, ◌∙◌, inl, inr, append_assoc, add-zero, arith}
+use Rattle.std.proofs.Common.{◌≡◌, ℕ, ◌+◌, ◌-◌, ◌*◌, ◌/◌, ◌%◌, ◌^◌, ◌<◌, ◌≤◌, true, List, [], ◌∷◌, ◌++◌, length, get_or, take, drop, Some, None, Ok, decimal, sym, refl, ap, ◌∙◌, inl, inr, append_assoc, add-zero, arith}
 use native.Mathlib.Nat.{div-add-mod}
 use Rattle.std.specs.List.{flat_map, prefix_len}
 use Rattle.std.proofs.lemmas.List.{append-nil, take_at, drop_at, drop-drop, length-drop, length-append, length_push, get_or_append_left}
 use Rattle.std.proofs.lemmas.Bool.{cond-true, cond-false, cases_Bool}
 use Rattle.std.proofs.lemmas.Bool.Decides.{nat_tests}
 use Rattle.std.proofs.lemmas.Fmt.{decimal_by_steps, length-decimal-le}
+use Rattle.std.proofs.lemmas.Grind.{common_steps}
 use Rattle.tables.specs.declared.task.Task.{Task}
 use Rattle.tables.specs.Adding.{add_fault, answer_by, tasks_by}
-use Rattle.table_text.specs.declared.parts.Field.{Field}
-use Rattle.table_text.specs.Fields.{in_field, field_length, field_bytes, is_digit, digits_after, plain_number, is_quoted, between_quotes, field_number, field_by, field_at}
+use Rattle.table_text.specs.Fields.{Field, in_field, field_length, field_bytes, is_digit, digits_after, field_number, field_by, field_at}
 use Rattle.table_text.specs.Separators.{past_separator}
 use Rattle.table_text.specs.Records.{ended_by, field_then_end, ended_field_at, record_at, progress, row_after}
 use Rattle.table_text.specs.Reading.{after_record, read_records}
@@ -36,16 +36,7 @@ record Decimal (n : ℕ) (ds : List ℕ) : Type 0 where
   pub first : 48 ≤ get_or ds 0 0
 
 one_digit : (n : ℕ) → n < 10 → Decimal n ((48 + n) ∷ [])
-one_digit n h =
-    let d : is_digit (48 + n) ≡ true = grind (arith, nat_tests) in
-    let i : in_field (48 + n) ≡ true = grind (arith, nat_tests) in
-    let e : 10 * 0 + ((48 + n) - 48) ≡ n = omega arith in
-    record {
-      reads = cond-true (is_digit (48 + n)) (Some (10 * 0 + ((48 + n) - 48))) None d ∙ ap (λ k. Some k) e;
-      leads = λ rest. cond-true (in_field (48 + n)) (1 + prefix_len in_field rest) 0 i;
-      some = omega arith;
-      first = omega arith;
-    }
+one_digit n h = grind (arith, common_steps)
 
 more_digits : (n : ℕ) (ds : List ℕ) → 10 ≤ n → Decimal (n / 10) ds → Decimal n (ds ++ (48 + n % 10) ∷ [])
 more_digits n ds h p =
@@ -67,13 +58,7 @@ decimal_is : (n : ℕ) → n < 2 ^ 64 → Decimal n (decimal n)
 decimal_is n h = decimal_by_steps Decimal one_digit more_digits n h
 
 number_back : (v : ℕ) → v < 10000000 → field_number (decimal v) ≡ Some v
-number_back v h =
-    let p = decimal_is v (omega arith) in
-    let l = length-decimal-le 7 v (omega arith) (omega arith) (omega arith) in
-    let q : is_quoted (decimal v) ≡ false = grind (arith, nat_tests, p.first) in
-    let t : (leb 1 (length (decimal v)) && leb (length (decimal v)) 7) ≡ true = grind (arith, nat_tests, p.some) in
-    cond-false (is_quoted (decimal v)) (plain_number (between_quotes (decimal v))) (plain_number (decimal v)) q
-    ∙ cond-true (leb 1 (length (decimal v)) && leb (length (decimal v)) 7) (digits_after 0 (decimal v)) None t ∙ p.reads
+number_back v h = grind (arith, common_steps, decimal_is v (omega arith), length-decimal-le 7 v (omega arith) (omega arith) (omega arith))
 
 -- the place behind what stands at a place
 next : (text s t : List ℕ) (at : ℕ) → drop at text ≡ s ++ t → drop (at + length s) text ≡ t

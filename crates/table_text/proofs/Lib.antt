@@ -1,4 +1,3 @@
-pub mod Behind
 pub mod Nexts
 pub mod Steps
 pub mod Writes

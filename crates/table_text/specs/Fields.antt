@@ -2,7 +2,6 @@
 use Rattle.std.specs.Prelude.{ℕ, ◌+◌, ◌-◌, ◌*◌, Bool, cond, not, ◌&&◌, ◌||◌, List, [], ◌∷◌, length, take, drop, Some, None, Ok, Err, Option, Result, ◌==◌, nat_le, slice_index}
 use Rattle.std.specs.List.{prefix_len}
 use Rattle.refusals.specs.declared.kinds.FieldFault.{FieldFault}
-use Rattle.table_text.specs.declared.parts.Field.{Field}
 
 abbrev pub comma : ℕ
 comma = 44
@@ -52,6 +51,11 @@ field_number s = cond (is_quoted s) (plain_number (between_quotes s)) (plain_num
 -- where the field at the place `at` of the text ends
 abbrev pub field_end : List ℕ → ℕ → ℕ
 field_end text at = at + field_length (drop at text)
+
+-- a field's number, and the place where it ends
+pub record Field : Type 0 where
+  pub value : ℕ
+  pub end : ℕ
 
 -- its value and its end, or the fault that names its record and its number within the record
 abbrev pub field_by : ℕ → ℕ → ℕ → Option ℕ → Result Field FieldFault

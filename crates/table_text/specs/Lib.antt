@@ -4,3 +4,4 @@ pub mod Records
 pub mod Reading
 pub mod Puts
 pub mod Written
+pub mod Cursors

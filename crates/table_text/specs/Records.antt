@@ -6,15 +6,18 @@ use Rattle.refusals.specs.declared.kinds.RecordFault.{RecordFault}
 use Rattle.refusals.specs.declared.kinds.RecordFault.TheVariants as fault
 use Rattle.tables.specs.declared.task.Task.{Task}
 use Rattle.tables.specs.Adding.{add_answer, tasks_after_adding}
-use Rattle.table_text.specs.declared.parts.Field.{Field}
-use Rattle.table_text.specs.declared.parts.TaskRecord.{TaskRecord}
-use Rattle.table_text.specs.Fields.{field_at}
+use Rattle.table_text.specs.Fields.{Field, field_at}
 use Rattle.table_text.specs.Separators.{past_separator}
 
 -- the first fault ends a reading
 abbrev pub and_then : {A B E : Type 0} → Result A E → (A → Result B E) → Result B E
 and_then (Ok x) f = f x
 and_then (Err e) f = Err e
+
+-- a record's task, and the place behind the record's end
+pub record TaskRecord : Type 0 where
+  pub task : Task
+  pub end : ℕ
 
 -- where the right separator does not follow a field, the record has another shape
 abbrev pub ended_by : ℕ → ℕ → Option ℕ → Result Field RecordFault

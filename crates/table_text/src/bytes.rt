@@ -9,8 +9,6 @@ pub(crate) const QUOTE: u8 = b'"';
 
 pub(crate) const ZERO: u8 = b'0';
 
-pub(crate) const NINE: u8 = b'9';
-
 // The header record, without what ends it.
 pub(crate) const HEADER: [u8; 13] = *b"C,D,T,P1,P2,S";
 

@@ -1,22 +1,18 @@
-ghost use Rattle.std.specs.Prelude.{◌≡◌, ◌≤◌, length, IfOk};
-ghost use Rattle.table_text.specs.Fields.{field_end, plain_number, field_number, field_at};
+ghost use Rattle.std.specs.Prelude.{◌≡◌, drop};
+ghost use Rattle.table_text.specs.Fields.{field_length, field_bytes, field_end, plain_number, field_number, field_at};
+ghost use Rattle.table_text.specs.Cursors.{read_to};
 
-use crate::bytes::{CARRIAGE_RETURN, COMMA, NINE, QUOTE, ZERO};
-use crate::parts::Field;
+use crate::bytes::{CARRIAGE_RETURN, COMMA, QUOTE, ZERO};
+use crate::cursor::Cursor;
 use refusals::kinds::FieldFault;
 
-// The next comma or carriage return from `at` on, or the end of the text.
-fn field_end(text: &[u8], at: usize) -> usize
-    requires { at ≤ length text.now }
-    ensures value { result ≡ field_end text.now at }
-    ensures bounds { (at ≤ result) × (result ≤ length text.now) }
+// How far it is to the next comma, carriage return or the end of the text.
+fn field_length(rest: &[u8]) -> usize
+    ensures { result ≡ field_length rest.now }
 {
-    for i in at..text.len() {
-        if text[i] == COMMA || text[i] == CARRIAGE_RETURN {
-            return i;
-        }
-    }
-    text.len()
+    rest.iter()
+        .take_while(|b| **b != COMMA && **b != CARRIAGE_RETURN)
+        .count()
 }
 
 // A number of 1 to 7 digits.
@@ -31,7 +27,7 @@ fn plain_number(s: &[u8]) -> Option<u32>
     }
     let mut v = 0;
     for b in s {
-        if *b < ZERO || *b > NINE {
+        if !b.is_ascii_digit() {
             return None;
         }
         v = 10 * v + (*b - ZERO) as u32;
@@ -43,24 +39,30 @@ fn plain_number(s: &[u8]) -> Option<u32>
 fn field_number(s: &[u8]) -> Option<u32>
     ensures { result ≡ field_number s.now }
 {
-    let n = s.len();
-    let shortest = 2;
-    if n >= shortest && s[0] == QUOTE && s[n - 1] == QUOTE {
-        plain_number(&s[1..n - 1])
-    } else {
-        plain_number(s)
+    match s {
+        [QUOTE, within @ .., QUOTE] => plain_number(within),
+        _ => plain_number(s),
     }
 }
 
-// The field at `at`, which is number k of the record.
-pub(crate) fn read_field(text: &[u8], at: usize, row: u32, k: u32) -> Result<Field, FieldFault>
-    requires { at ≤ length text.now }
-    ensures value { result ≡ field_at text.now at row k }
-    ensures bound { IfOk result (λ f. f.end ≤ length text.now) }
-{
-    let end = field_end(text, at);
-    match field_number(&text[at..end]) {
-        Some(value) => Ok(Field { value, end }),
-        None => Err(FieldFault { row, field: k }),
+impl<'a> Cursor<'a> {
+    // Passes a field, and gives its bytes.
+    fn pass_field(&mut self) -> &'a [u8]
+        ensures bytes { result.now ≡ field_bytes (drop self.old.at self.old.text.now) }
+        ensures place { self.new.at ≡ field_end self.old.text.now self.old.at }
+        ensures same_text { self.new.text.now ≡ self.old.text.now }
+    {
+        let rest = self.rest();
+        let n = field_length(rest);
+        self.at += n;
+        &rest[..n]
+    }
+
+    // Reads a field, which is number k of the record.
+    pub(crate) fn read_field(&mut self, row: u32, k: u32) -> Result<u32, FieldFault>
+        ensures value { read_to self.new.at result ≡ field_at self.old.text.now self.old.at row k }
+        ensures same_text { self.new.text.now ≡ self.old.text.now }
+    {
+        field_number(self.pass_field()).ok_or(FieldFault { row, field: k })
     }
 }

@@ -1,8 +1,8 @@
 #![tactic(auto)]
 
 mod bytes;
+mod cursor;
 mod fields;
-mod parts;
 mod puts;
 pub mod reading;
 mod records;

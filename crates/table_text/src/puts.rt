@@ -6,8 +6,7 @@ pub(crate) fn put_bytes(out: &mut [u8], at: usize, s: &[u8]) -> usize
     requires { at + length s.now ≤ length out.old }
     ensures { Put out.old out.new at result s.now }
 {
-    for i in 0..s.len() {
-        out[at + i] = s[i];
-    }
-    at + s.len()
+    let end = at + s.len();
+    out[at..end].copy_from_slice(s);
+    end
 }

@@ -1,38 +1,41 @@
-ghost use Rattle.std.specs.Prelude.{◌≡◌, ◌≤◌, [], length, IfSome, Ok, Err, MatchResult, OnErr, OnOk};
+ghost use Rattle.std.specs.Prelude.{◌≡◌, [], IfSome, OnErr, OnOk};
 ghost use Rattle.tables.specs.Tables.{tasks_of};
+ghost use Rattle.table_text.specs.Cursors.{place_of, tasks_read};
 ghost use Rattle.table_text.specs.Records.{progress};
 ghost use Rattle.table_text.specs.Written.{ReadsBack};
 ghost use Rattle.table_text.specs.Reading.{past_header, read_records, read_answer, tasks_after_reading};
 
 use crate::bytes::HEADER;
-use crate::records::add_record;
-use crate::separators::past_end;
+use crate::cursor::Cursor;
 use refusals::kinds::ReadRefusal;
 use tables::table::Table;
 
 // The place behind the header and its end, where the text begins with them.
-fn past_header(text: &[u8]) -> Option<usize>
-    ensures value { result ≡ past_header text.now }
-    ensures bound { IfSome result (λ n. n ≤ length text.now) }
+fn past_header(text: &[u8]) -> Option<Cursor>
+    ensures place { place_of result ≡ past_header text.now }
+    ensures same_text { IfSome result (λ c. c.text.now ≡ text.now) }
 {
-    if text.starts_with(&HEADER) {
-        past_end(text, HEADER.len())
+    if !text.starts_with(&HEADER) {
+        return None;
+    }
+    let mut cursor = Cursor {
+        text,
+        at: HEADER.len(),
+    };
+    if cursor.pass_end() {
+        Some(cursor)
     } else {
         None
     }
 }
 
-// The table of the records from `start` on.
-fn read_records(text: &[u8], start: usize) -> Result<Table, ReadRefusal>
-    requires { start ≤ length text.now }
-    ensures { MatchResult result
-        (λ t. read_records 33 text.now (progress [] start) ≡ Ok (tasks_of t))
-        (λ e. read_records 33 text.now (progress [] start) ≡ Err e) }
+// The table of the records that follow.
+fn read_records(mut cursor: Cursor) -> Result<Table, ReadRefusal>
+    ensures { tasks_read result ≡ read_records 33 cursor.entry.text.now (progress [] cursor.entry.at) }
 {
     let mut table = Table::new();
-    let mut at = start;
-    while at < text.len() {
-        at = add_record(text, at, &mut table)?;
+    while !cursor.is_at_end() {
+        cursor.add_record(&mut table)?;
     }
     Ok(table)
 }
@@ -41,6 +44,7 @@ fn read_records(text: &[u8], start: usize) -> Result<Table, ReadRefusal>
 pub const ENOUGH: u64 = 4_097;
 
 /// Reads a table text and puts its table in the target's place. A refused reading leaves the target as it was.
+#[tactic(auto, using(crate::proofs::Steps::table_too_long, crate::proofs::Steps::table_after_header))]
 pub fn read(text: &[u8], target: &mut Table) -> Result<(), ReadRefusal>
     ensures answer { result ≡ read_answer text.now }
     ensures tasks_after { tasks_of target.new ≡ tasks_after_reading (tasks_of target.old) text.now }
@@ -51,10 +55,9 @@ pub fn read(text: &[u8], target: &mut Table) -> Result<(), ReadRefusal>
     if text.len() > most {
         return Err(ReadRefusal::TextTooLong);
     }
-    let Some(start) = past_header(text) else {
+    let Some(cursor) = past_header(text) else {
         return Err(ReadRefusal::OtherHeader);
     };
-    let table = read_records(text, start)?;
-    *target = table;
+    *target = read_records(cursor)?;
     Ok(())
 }

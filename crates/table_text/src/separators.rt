@@ -1,48 +1,50 @@
-ghost use Rattle.std.specs.Prelude.{◌≡◌, ◌≤◌, length, drop, IfSome};
+ghost use Rattle.std.specs.Prelude.{◌≡◌, drop};
 ghost use Rattle.table_text.specs.Separators.{past_comma, past_end, past_separator};
+ghost use Rattle.table_text.specs.Cursors.{place_if};
 
 use crate::bytes::{CARRIAGE_RETURN, COMMA, LINE_FEED};
+use crate::cursor::Cursor;
 
-// The place behind the comma at `at`, where one stands.
-fn past_comma(text: &[u8], at: usize) -> Option<usize>
-    requires { at ≤ length text.now }
-    ensures value { result ≡ past_comma at (drop at text.now) }
-    ensures bound { IfSome result (λ n. n ≤ length text.now) }
-{
-    if at < text.len() && text[at] == COMMA {
-        Some(at + 1)
-    } else {
-        None
+impl Cursor<'_> {
+    // Passes a comma, where one stands here.
+    fn pass_comma(&mut self) -> bool
+        ensures place { place_if result self.new.at ≡ past_comma self.old.at (drop self.old.at self.old.text.now) }
+        ensures same_text { self.new.text.now ≡ self.old.text.now }
+    {
+        match self.rest() {
+            [COMMA, ..] => {
+                self.at += 1;
+                true
+            }
+            _ => false,
+        }
     }
-}
 
-// The place behind the record's end at `at`, where one stands.
-pub(crate) fn past_end(text: &[u8], at: usize) -> Option<usize>
-    requires { at ≤ length text.now }
-    ensures value { result ≡ past_end at (drop at text.now) }
-    ensures bound { IfSome result (λ n. n ≤ length text.now) }
-{
-    let n = text.len();
-    if at == n {
-        return Some(at);
+    // Passes a record's end, where one stands here.
+    pub(crate) fn pass_end(&mut self) -> bool
+        ensures place { place_if result self.new.at ≡ past_end self.old.at (drop self.old.at self.old.text.now) }
+        ensures same_text { self.new.text.now ≡ self.old.text.now }
+    {
+        match self.rest() {
+            [] => true,
+            [CARRIAGE_RETURN, LINE_FEED, ..] => {
+                self.at += 2;
+                true
+            }
+            _ => false,
+        }
     }
-    if at + 1 < n && text[at] == CARRIAGE_RETURN && text[at + 1] == LINE_FEED {
-        Some(at + 2)
-    } else {
-        None
-    }
-}
 
-// The place behind what follows field k, where that stands at `at`.
-pub(crate) fn past_separator(text: &[u8], at: usize, k: u32) -> Option<usize>
-    requires { at ≤ length text.now }
-    ensures value { result ≡ past_separator k at (drop at text.now) }
-    ensures bound { IfSome result (λ n. n ≤ length text.now) }
-{
-    let last = 6;
-    if k < last {
-        past_comma(text, at)
-    } else {
-        past_end(text, at)
+    // Passes what follows field k, where that stands here.
+    pub(crate) fn pass_separator(&mut self, k: u32) -> bool
+        ensures place { place_if result self.new.at ≡ past_separator k self.old.at (drop self.old.at self.old.text.now) }
+        ensures same_text { self.new.text.now ≡ self.old.text.now }
+    {
+        let last = 6;
+        if k < last {
+            self.pass_comma()
+        } else {
+            self.pass_end()
+        }
     }
 }

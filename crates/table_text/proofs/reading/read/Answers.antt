@@ -1,41 +1,5 @@
-use Rattle.std.proofs.Common.{sym, refl, ap, ◌∙◌, arith}
-use Rattle.std.proofs.lemmas.Result.{err_from_is_err_and}
-use Rattle.tables.specs.Tables.{tasks_of}
-use Rattle.table_text.specs.Reading.{answer_by, tasks_by, read_after}
-use Rattle.table_text.proofs.Steps.{table_too_long, table_after_header}
 use Rattle.table_text.proofs.RoundTrip.{reads_back}
 use Rattle.table_text.proofs.reading.read.Goals as goal
 
-pub returns-then-text-most : goal.returns-then-text-most
-returns-then-text-most c =
-    let e = table_too_long c.args.text.now (omega arith) in
-    record { answer = sym (ap answer_by e); tasks_after = sym (ap (tasks_by (tasks_of c.args.target.now)) e); written_again_reads_the_same = tt; same_if_refused = refl }
-
-pub returns-in_default : goal.returns-in_default
-returns-in_default c =
-    let text = c.args.text.now in
-    let h = c.in_default.ensures in
-    let e = table_after_header text (omega arith) ∙ ap (read_after text) (sym h.value) in
-    record { answer = sym (ap answer_by e); tasks_after = sym (ap (tasks_by (tasks_of c.args.target.now)) e); written_again_reads_the_same = tt; same_if_refused = refl }
-
-pub returns-in_err-table : goal.returns-in_err-table
-returns-in_err-table c =
-    let text = c.args.text.now in
-    let p = err_from_is_err_and c.from_residual.result c.from_residual.ensures.1 in
-    let start = c.in-Some.ensures in
-    let h = c.in_err-table.ensures in
-    let e = table_after_header text (omega arith) ∙ ap (read_after text) (sym start.value) ∙ h in
-    record {
-      answer = rw (p.1, p.2) (sym (ap answer_by e));
-      tasks_after = sym (ap (tasks_by (tasks_of c.args.target.now)) e);
-      written_again_reads_the_same = rw p.1 tt;
-      same_if_refused = rw p.1 refl;
-    }
-
-pub returns : goal.returns
-returns c =
-    let text = c.args.text.now in
-    let start = c.in-Some.ensures in
-    let h = c.in_ok-table.ensures in
-    let e = table_after_header text (omega arith) ∙ ap (read_after text) (sym start.value) ∙ h in
-    record { answer = sym (ap answer_by e); tasks_after = sym (ap (tasks_by (tasks_of c.args.target.now)) e); written_again_reads_the_same = reads_back c.in_ok-table.table; same_if_refused = tt }
+pub returns-clause-written_again_reads_the_same : goal.returns-clause-written_again_reads_the_same
+returns-clause-written_again_reads_the_same c = reads_back c.in_ok-target.field-0
