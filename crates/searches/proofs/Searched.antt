@@ -1,6 +1,8 @@
 -- What holds of a search after any number of rounds.
-use Rattle.std.proofs.Common.{◌≡◌, ℕ, zero, suc, ◌+◌, ◌-◌, ◌<◌, ◌≤◌, List, [], ◌∷◌, length, get_or, fold, sum_by, sym, refl, ap, ◌∙◌, subst, inl, inr, add-zero, add-suc, arith}
+use Rattle.std.proofs.Common.{◌≡◌, ℕ, zero, suc, ◌+◌, ◌-◌, ◌<◌, ◌≤◌, List, length, get_or, sum_by, sym, refl, ap, ◌∙◌, subst, inl, inr, add-zero, add-suc, arith}
 use Rattle.std.proofs.lemmas.List.{length-map, length-set}
+use Rattle.std.proofs.lemmas.List.Folds.{fold-map}
+use Rattle.std.proofs.Math.ListN.{get_or-map}
 use Rattle.std.proofs.lemmas.Bool.{cases_eq}
 use Rattle.tables.specs.declared.task.Task.{Task}
 use Rattle.tables.specs.Tasks.{nobody}
@@ -30,13 +32,7 @@ record Along (ts : List Task) (lower : Meaning) (n : ℕ) (t : Trial) : Type 0 w
   spent : t.stage ≡ Open → sum_by (λ x. x.s) t.tasks + n ≡ sum_by (λ x. x.d) ts
 
 moved_at : (ts : List Task) (i : ℕ) → get_or (at_deadlines ts) i nobody ≡ with_promotion (get_or ts i nobody) (get_or ts i nobody).d
-moved_at [] i = refl
-moved_at (x ∷ ts) zero = refl
-moved_at (x ∷ ts) (suc i) = moved_at ts i
-
-moved_sum : (ts : List Task) (a : ℕ) → fold (λ b (x : Task). b + x.s) a (at_deadlines ts) ≡ fold (λ b (x : Task). b + x.d) a ts
-moved_sum [] a = refl
-moved_sum (x ∷ ts) a = moved_sum ts (a + x.d)
+moved_at ts i = get_or-map (λ x. with_promotion x x.d) ts i nobody
 
 -- a task with another S is that task with the S that it then has
 but_for_time : (x y : Task) (n : ℕ) → y ≡ with_promotion x n → y ≡ with_promotion x y.s
@@ -49,7 +45,7 @@ module _ (ts : List Task) (lower : Meaning) where
     same = λ i. but_for_time (get_or ts i nobody) (get_or (at_deadlines ts) i nobody) (get_or ts i nobody).d (moved_at ts i);
     bound = λ i. let e = ap (λ (z : Task). z.s) (moved_at ts i) in omega arith;
     told = tt;
-    spent = λ e. let z = moved_sum ts 0 in omega arith;
+    spent = λ e. let z = fold-map (λ b (x : Task). b + x.s) (λ x. with_promotion x x.d) 0 ts in omega arith;
   }
 
   along_lowered : (n : ℕ) (us : List Task) (i : ℕ) → 0 < (get_or us i nobody).s → Along ts lower n (at_stage us Open) → Along ts lower (suc n) (at_stage (lowered us i) Open)
