@@ -1,5 +1,5 @@
 -- Where a number stands in a list: what a search finds, and that different numbers stand at different places.
-use Rattle.std.specs.Prelude.{◌≡◌, ℕ, ◌+◌, ◌<◌, ◌≤◌, Bool, true, false, not, ◌&&◌, ◌≢◌, List, [], ◌∷◌, ◌++◌, length, take, is_some, Some, position, ◌==◌, slice_index, slice_set}
+use Rattle.std.specs.Prelude.{◌≡◌, ℕ, ◌<◌, ◌≤◌, Bool, true, false, not, ◌&&◌, ◌≢◌, List, [], ◌∷◌, ◌++◌, length, is_some, Some, position, ◌==◌, slice_index}
 use Rattle.std.specs.List.{position_or_len}
 use Rattle.std.proofs.Common.{sym, ap, ◌∙◌, inl, inr, arith}
 use Rattle.std.proofs.lemmas.Bool.{eqb-true, eqb-false, lt-ltb, cases_lt}
@@ -7,10 +7,10 @@ use Rattle.std.proofs.lemmas.Iterator.Adapters.{position_from-zero}
 use Rattle.std.proofs.lemmas.Bool.Decides.{nat_tests}
 use Rattle.std.proofs.lemmas.List.Quantifiers.{position-Some}
 use Rattle.std.proofs.lemmas.List.Sums.{fails_before_first}
-use Rattle.std.proofs.lemmas.List.{get_or_append_left, get_or_push, length_push, length-take-le, take_more_set}
-use Rattle.orderings.specs.Places.{listed, NoneTwice, place_in}
+use Rattle.std.proofs.lemmas.List.{get_or_append_left, get_or_push, length_push}
+use Rattle.bounded.proofs.Held.{length_items}
+use Rattle.orderings.specs.Places.{NoneTwice, place_in}
 use Rattle.orderings.specs.BackgroundList.{numbers_of, takes_number}
-use Rattle.orderings.specs.declared.background_places.Places.{Places}
 use Rattle.orderings.specs.declared.background_list.BackgroundList.{BackgroundList}
 
 -- the library's `position`
@@ -46,14 +46,4 @@ pub takes_new : (xs : List ℕ) (n : ℕ) → length xs < 32 → is_some (place_
 takes_new xs n h new = ap (λ r. r && not (is_some (place_in xs n))) (lt-ltb (length xs) 32 h) ∙ ap not new
 
 pub numbers_count : (l : BackgroundList) → length (numbers_of l) ≡ l.places.count
-numbers_count l =
-    let wide = l.wide in
-    let few = l.few in
-    length-take-le l.places.count l.places.numbers (omega arith)
-
--- a number written behind the others stands at the end of the list
-pub pushed : (l : BackgroundList) (p : Places) (n : ℕ) → l.places.count < 32 → p.numbers ≡ slice_set l.places.numbers l.places.count n → p.count ≡ l.places.count + 1
-    → listed p ≡ numbers_of l ++ n ∷ []
-pushed l p n room numbers count =
-    let wide : length l.places.numbers ≡ 32 = l.wide in
-    ap (λ k. take k p.numbers) count ∙ ap (take (l.places.count + 1)) numbers ∙ take_more_set l.places.numbers l.places.count n (omega arith)
+numbers_count l = length_items l.places

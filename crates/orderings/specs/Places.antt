@@ -1,11 +1,12 @@
 -- Lists of numbers, and where a number stands in one.
-use Rattle.std.specs.Prelude.{ℕ, ◌<◌, ◌≢◌, List, length, take, Option, ◌==◌, slice_index}
+use Rattle.std.specs.Prelude.{ℕ, ◌<◌, ◌≢◌, List, length, Option, ◌==◌, slice_index}
 use Rattle.std.specs.List.{position_from}
-use Rattle.orderings.specs.declared.background_places.Places.{Places}
+use Rattle.bounded.specs.declared.list.Bounded.{Bounded}
+use Rattle.bounded.specs.Lists.{items_of}
 
 -- the numbers in use
-abbrev pub listed : Places → List ℕ
-listed p = take p.count p.numbers
+abbrev pub listed : Bounded ℕ 32 → List ℕ
+listed p = items_of p
 
 abbrev pub NoneTwice : List ℕ → Type 0
 NoneTwice xs = (k l : ℕ) → k < l → l < length xs → slice_index xs k ≢ slice_index xs l

@@ -3,7 +3,7 @@ ghost use Rattle.orderings.specs.Places.{place_in};
 ghost use Rattle.orderings.specs.BackgroundList.{numbers_of, takes_number, numbers_after_taking};
 
 use crate::background_list::BackgroundList;
-use crate::background_places::Places;
+use bounded::list::Bounded;
 
 impl BackgroundList {
     /// The empty list.
@@ -11,10 +11,7 @@ impl BackgroundList {
         ensures { numbers_of result ≡ [] }
     {
         BackgroundList {
-            places: Places {
-                numbers: [0; 32],
-                count: 0,
-            },
+            places: Bounded::new(0),
         }
     }
 
@@ -22,14 +19,14 @@ impl BackgroundList {
     pub fn len(&self) -> usize
         ensures { result ≡ length (numbers_of self.now) }
     {
-        self.places.count
+        self.places.len()
     }
 
     /// The numbers, in the order in which they were taken.
     pub fn numbers(&self) -> &[u32]
         ensures { result.now ≡ numbers_of self.now }
     {
-        &self.places.numbers[..self.places.count]
+        self.places.as_slice()
     }
 
     /// Writes a number at the list's end and answers true. Answers false and leaves the list as it was where the number
@@ -41,7 +38,7 @@ impl BackgroundList {
         ensures same_if_not_taken { result ≡ false → self.new ≡ self.old }
     {
         let room = 32;
-        if self.places.count >= room {
+        if self.len() >= room {
             return false;
         }
         if self.place(number).is_some() {

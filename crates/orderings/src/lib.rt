@@ -3,7 +3,6 @@
 pub mod background;
 pub mod background_calls;
 pub mod background_list;
-pub mod background_places;
 pub mod deadline;
 pub mod fixed;
 pub mod keyed;

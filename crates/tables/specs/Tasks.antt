@@ -1,15 +1,16 @@
 -- Tasks, and the bounds that every task of a table keeps.
-use Rattle.std.specs.Prelude.{ℕ, ◌<◌, ◌≤◌, List, length, take, slice_index_or}
+use Rattle.std.specs.Prelude.{ℕ, ◌<◌, ◌≤◌, List, length, slice_index_or}
 use Rattle.tables.specs.declared.task.Task.{Task}
-use Rattle.tables.specs.declared.task.Rows.{Rows}
+use Rattle.bounded.specs.declared.list.Bounded.{Bounded}
+use Rattle.bounded.specs.Lists.{items_of}
 
 -- what a read past the end of a list of tasks gives
 abbrev pub nobody : Task
 nobody = record { c = 0; d = 0; t = 0; p1 = 0; p2 = 0; s = 0 }
 
 -- the tasks in use, in the order of their numbers
-abbrev pub listed : Rows → List Task
-listed r = take r.count r.tasks
+abbrev pub listed : Bounded Task 32 → List Task
+listed r = items_of r
 
 -- P of each task of a list
 abbrev pub Each : (Task → Type 0) → List Task → Type 0

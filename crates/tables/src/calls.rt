@@ -6,7 +6,8 @@ ghost use Rattle.tables.specs.Tables.{tasks_of, task_at};
 
 use crate::euclid::least_multiple;
 use crate::table::Table;
-use crate::task::{Rows, Task};
+use crate::task::Task;
+use bounded::list::Bounded;
 use refusals::kinds::{AddRefusal, SetRefusal};
 
 // What stands in the places behind the tasks.
@@ -39,10 +40,7 @@ impl Table {
         ensures hyperperiod_is_one { hyperperiod_of (tasks_of result) ≡ 1 }
     {
         Table {
-            rows: Rows {
-                tasks: [NOBODY; 32],
-                count: 0,
-            },
+            rows: Bounded::new(NOBODY),
         }
     }
 
@@ -57,8 +55,7 @@ impl Table {
     pub fn tasks(&self) -> &[Task]
         ensures { result.now ≡ tasks_of self.now }
     {
-        let n = self.rows.count;
-        &self.rows.tasks[0..n]
+        self.rows.as_slice()
     }
 
     /// The task of a number, or none where the table has no such number.
@@ -86,7 +83,7 @@ impl Table {
         ensures tasks_after { tasks_of self.new ≡ tasks_after_adding (tasks_of self.old) task }
         ensures same_if_refused { OnErr result (self.new ≡ self.old) }
     {
-        let n = self.rows.count;
+        let n = self.len();
         let room = 32;
         if n >= room {
             return Err(AddRefusal::TableFull);
@@ -102,8 +99,7 @@ impl Table {
         if h > longest {
             return Err(AddRefusal::HyperperiodTooLong);
         }
-        self.rows.tasks[n] = task;
-        self.rows.count = n + 1;
+        self.rows.push(task);
         Ok(n as u32)
     }
 
@@ -118,7 +114,7 @@ impl Table {
         if s > task.d {
             return Err(SetRefusal::PromotionOutOfBounds);
         }
-        self.rows.tasks[i as usize].s = s;
+        self.rows.set(i as usize, Task { s, ..task });
         Ok(())
     }
 }

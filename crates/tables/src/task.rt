@@ -14,11 +14,3 @@ pub struct Task {
     /// S, the promotion time after the release.
     pub s: u32,
 }
-
-// An array with a count beside it: a table's memory is fixed and plain, and the table itself carries the bounds.
-/// The plain memory of a table: the tasks are the first `count` places, and what stands behind them means nothing.
-#[derive(Clone, Copy)]
-pub struct Rows {
-    pub tasks: [Task; 32],
-    pub count: usize,
-}

@@ -2,6 +2,7 @@
 use Rattle.std.proofs.Common.{◌≡◌, ℕ, zero, suc, ◌+◌, ◌<◌, ◌≤◌, List, [], ◌∷◌, ◌++◌, length, get_or, take, set, sym, refl, ap, ◌∙◌, append_assoc, arith}
 use Rattle.std.proofs.lemmas.List.{append-nil, take_all, take_at, take_more, take_more_set, length-append, length-take-le}
 use Rattle.texts.specs.declared.text.Text.{Text}
+use Rattle.bounded.proofs.Held.{length_items, items_few}
 use Rattle.texts.specs.Texts.{bytes_of, pushed}
 
 cut_again : (n : ℕ) (a b : List ℕ) → take n (take n a ++ b) ≡ take n (a ++ b)
@@ -29,20 +30,9 @@ module _ (room : ℕ) where
       pushed_next a now next (take i s) (get_or s i 0 ∷ []) e f ∙ ap (pushed room a) (sym (take_more s i 0 h))
 
 module _ {N : ℕ} (t : Text N) where
-  pub length_bytes : length (bytes_of t) ≡ t.len
-  length_bytes = let w = t.wide in let n = t.within in length-take-le t.len t.memory (omega arith)
+  pub length_bytes : length (bytes_of t) ≡ t.list.count
+  length_bytes = length_items t.list
 
   -- no byte behind a text
   pub pushed_none : bytes_of t ≡ pushed N (bytes_of t) []
-  pushed_none = sym (pushed_all N (bytes_of t) [] (let n = length_bytes in let w = t.within in omega arith) ∙ append-nil (bytes_of t))
-
-  -- one byte where there is room, and where there is none
-  pub pushed_byte : (b : ℕ) → t.len < N → take (t.len + 1) (set t.memory t.len b) ≡ pushed N (bytes_of t) (b ∷ [])
-  pushed_byte b h =
-      let w = t.wide in
-      let n = length_bytes in
-      take_more_set t.memory t.len b (omega arith) ∙ sym (pushed_all N (bytes_of t) (b ∷ []) (omega arith))
-
-  pub pushed_full : (b : ℕ) → N ≤ t.len → bytes_of t ≡ pushed N (bytes_of t) (b ∷ [])
-  unfolding pushed
-  pushed_full b h = let n = length_bytes in let w = t.within in sym (take_at (bytes_of t) (b ∷ []) N (omega arith))
+  pushed_none = sym (pushed_all N (bytes_of t) [] (let n = items_few t.list in omega arith) ∙ append-nil (bytes_of t))

@@ -2,6 +2,7 @@ ghost use Rattle.std.specs.Prelude.{◌≡◌, [], ◌∷◌, decimal};
 ghost use Rattle.texts.specs.Texts.{bytes_of, pushed};
 
 use crate::text::Text;
+use bounded::list::Bounded;
 use itoa::Buffer;
 
 impl<const N: usize> Text<N> {
@@ -10,8 +11,7 @@ impl<const N: usize> Text<N> {
         ensures { bytes_of result ≡ [] }
     {
         Text {
-            memory: [0; N],
-            len: 0,
+            list: Bounded::new(0),
         }
     }
 
@@ -19,17 +19,15 @@ impl<const N: usize> Text<N> {
     pub fn bytes(&self) -> &[u8]
         ensures { result.now ≡ bytes_of self.now }
     {
-        &self.memory[..self.len]
+        self.list.as_slice()
     }
 
     /// Writes one byte behind the others. What passes `N` bytes is left out.
+    #[tactic(auto, unfolding(crate::specs::Texts::pushed))]
     pub fn push(&mut self, b: u8)
         ensures { bytes_of self.new ≡ pushed N (bytes_of self.old) (b ∷ []) }
     {
-        if self.len < N {
-            self.memory[self.len] = b;
-            self.len += 1;
-        }
+        self.list.push(b);
     }
 
     /// Writes bytes behind the others. What passes `N` bytes is left out.

@@ -1,12 +1,9 @@
-ghost use Rattle.std.specs.Prelude.{◌≡◌, ◌≤◌, length};
+use bounded::list::Bounded;
 
-/// A text of at most `N` bytes: the first `len` bytes, and what stands behind them means nothing.
+/// A text of at most `N` bytes.
 #[derive(Clone, Copy)]
 pub struct Text<const N: usize> {
-    pub(crate) memory: [u8; N],
-    pub(crate) len: usize,
-    ghost wide: { length memory ≡ N },
-    ghost within: { len ≤ N },
+    pub(crate) list: Bounded<u8, N>,
 }
 
 /// A line that is printed or written.

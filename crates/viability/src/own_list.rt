@@ -1,4 +1,5 @@
-ghost use Rattle.std.specs.Prelude.{◌≡◌, ◌≤◌, length, take};
+ghost use Rattle.std.specs.Prelude.{◌≡◌};
+ghost use Rattle.bounded.specs.Lists.{items_of};
 ghost use Rattle.tables.specs.Tables.{tasks_of};
 ghost use Rattle.orderings.specs.BackgroundList.{numbers_of};
 ghost use Rattle.viability.specs.OwnList.{candidates, next_taken, own_list};
@@ -6,30 +7,30 @@ ghost use Rattle.viability.specs.TaskSets.{members_of};
 
 use crate::candidate::{Candidate, LongestFirst};
 use crate::task_set::TaskSet;
+use bounded::list::Bounded;
 use firsts::order::first;
 use orderings::background_list::BackgroundList;
 use tables::table::Table;
 
 impl TaskSet<'_> {
-    // Gathers the tasks of the set that are viable within it at the front of `found`, in the order of their numbers, and
-    // tells how many there are.
-    #[tactic(auto, using(crate::proofs::Gathered::found_more, crate::proofs::Gathered::found_same))]
-    fn gather(&self, found: &mut [Candidate]) -> usize
-        requires room { length self.now.tasks.now ≤ length found.old }
-        ensures viable { take result found.new ≡ candidates self.now.tasks.now (members_of self.now) }
-        ensures bound { result ≤ length self.now.tasks.now }
+    // The tasks of the set that are viable within it, in the order of their numbers.
+    #[tactic(auto, using(crate::proofs::Gathered::one_longer, crate::proofs::Gathered::found_more, crate::proofs::Gathered::found_same))]
+    fn gather(&self) -> Bounded<Candidate, 32>
+        ensures { items_of result ≡ candidates self.now.tasks.now (members_of self.now) }
     {
-        let mut n = 0;
+        let mut found = Bounded::new(Candidate {
+            deadline: 0,
+            task: 0,
+        });
         for (k, x) in self.tasks.iter().enumerate() {
             if self.has(k) && self.response(k).is_some() {
-                found[n] = Candidate {
+                found.push(Candidate {
                     deadline: x.d,
                     task: k as u32,
-                };
-                n += 1;
+                });
             }
         }
-        n
+        found
     }
 
     // The one that is taken next from the set: of the tasks that are viable within it the one with the longest deadline,
@@ -37,13 +38,8 @@ impl TaskSet<'_> {
     fn next(&self) -> Option<Candidate>
         ensures { result ≡ next_taken self.now.tasks.now (members_of self.now) }
     {
-        // `first` takes a slice, and the library allocates nothing, so the candidates stand in an array of fixed size
-        let mut found = [Candidate {
-            deadline: 0,
-            task: 0,
-        }; 32];
-        let n = self.gather(&mut found);
-        first(&found[..n], &LongestFirst).copied()
+        let found = self.gather();
+        first(found.as_slice(), &LongestFirst).copied()
     }
 }
 

@@ -74,7 +74,11 @@ fn promoted(c: u32, d: u32, p2: u32) -> Task {
 
 #[test]
 fn promotion_times_by_laxity(rt: HostRuntime) -> Result<(), Fail> {
-    let mut table = Table::try_from([promoted(1, 4, 0), promoted(2, 6, 1), promoted(1, 12, 2)].as_slice())?;
+    let mut table = Table::try_from([
+        promoted(1, 4, 0),
+        promoted(2, 6, 1),
+        promoted(1, 12, 2),
+    ].as_slice())?;
     assert_eq!(rt; set_by_laxity(&mut table).is_ok(), true);
     assert_eq!(rt;
         table.tasks(),

@@ -7,7 +7,7 @@ pub returns : goal.returns
 returns c =
     let l = c.args.line.now in
     let n = length_bytes l in
-    let w = l.within in
+    let w = l.list.within in
     c.push_bytes.ensures
     ∙ ap (λ x. pushed 4352 x c.bytes.result.now) c.new-page.ensures
     ∙ ap (pushed 4352 []) c.bytes.ensures

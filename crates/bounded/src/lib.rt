@@ -1,0 +1,4 @@
+#![tactic(auto)]
+
+pub mod calls;
+pub mod list;

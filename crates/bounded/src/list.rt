@@ -1,0 +1,22 @@
+ghost use Rattle.std.specs.Prelude.{◌≡◌, ◌≤◌, length, ⊤};
+
+use std::alloc::AllocError;
+
+/// A list of at most `N` items, in memory of its own: the first `count` places, and what stands behind them means nothing.
+#[derive(Copy)]
+pub struct Bounded<T, const N: usize> {
+    pub(crate) items: [T; N],
+    pub(crate) count: usize,
+    ghost wide: { length items ≡ N },
+    ghost within: { count ≤ N },
+}
+
+impl<T: Copy, const N: usize> Clone for Bounded<T, N> {
+    ghost is_clone = { λ list copy. copy ≡ list };
+
+    ghost is_infallible = { λ _. ⊤ };
+
+    fn clone(&self) -> Result<Bounded<T, N>, AllocError> {
+        Ok(*self)
+    }
+}
