@@ -1,4 +1,4 @@
-ghost use Rattle.std.specs.Prelude.{◌≡◌, drop};
+ghost use Rattle.std.specs.Prelude.{◌≡◌, ◌≤◌, length, drop};
 ghost use Rattle.table_text.specs.Fields.{field_length, field_bytes, field_end, plain_number, field_number, field_at};
 ghost use Rattle.table_text.specs.Cursors.{read_to};
 
@@ -8,7 +8,8 @@ use refusals::kinds::FieldFault;
 
 // How far it is to the next comma, carriage return or the end of the text.
 fn field_length(rest: &[u8]) -> usize
-    ensures { result ≡ field_length rest.now }
+    ensures value { result ≡ field_length rest.now }
+    ensures bound { result ≤ length rest.now }
 {
     rest.iter()
         .take_while(|b| **b != COMMA && **b != CARRIAGE_RETURN)
