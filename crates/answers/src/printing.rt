@@ -8,9 +8,9 @@ use refusals::kinds::{ReadRefusal, Refusal};
 use schedules::verdict::Verdict;
 use texts::text::Line;
 
-const HEADER: [u8; 54] = *b"answer,task,instant,hyperperiod,refusal,record,field\r\n";
+const HEADER: &[u8] = b"answer,task,instant,hyperperiod,refusal,record,field\r\n";
 
-const LINE_END: [u8; 2] = *b"\r\n";
+const LINE_END: &[u8] = b"\r\n";
 
 // The fields of the record that tells of a table.
 fn judged_columns(judged: Judged) -> Columns
@@ -37,7 +37,7 @@ fn judged_columns(judged: Judged) -> Columns
 fn refused_columns(e: ReadRefusal) -> Columns
     ensures { result ≡ refused_columns e }
 {
-    let refusal = Refusal::Reading(e);
+    let refusal = Refusal::from(e);
     let place = refusal.place();
     Columns {
         refusal: Some(refusal.number()),
@@ -80,7 +80,7 @@ fn push_columns(line: &mut Line, c: &Columns)
     push_column(line, c.refusal);
     push_column(line, c.row);
     push_column(line, c.field);
-    line.push_bytes(&LINE_END);
+    line.push_bytes(LINE_END);
 }
 
 /// Writes an answer's record, ended: at most 75 bytes.
@@ -97,7 +97,7 @@ pub fn printed(answer: &Answer) -> Line
     ensures { bytes_of result ≡ answer_text answer.now }
 {
     let mut line = Line::new();
-    line.push_bytes(&HEADER);
+    line.push_bytes(HEADER);
     push_record(&mut line, answer);
     line
 }

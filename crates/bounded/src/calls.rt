@@ -1,4 +1,4 @@
-ghost use Rattle.std.specs.Prelude.{◌≡◌, [], ◌∷◌, ◌++◌, length, take, nat_lt, slice_set};
+ghost use Rattle.std.specs.Prelude.{◌≡◌, false, [], ◌∷◌, ◌++◌, length, take, nat_lt, slice_set};
 ghost use Rattle.bounded.specs.Lists.{items_of};
 
 use crate::list::Bounded;
@@ -32,6 +32,7 @@ impl<T: Copy, const N: usize> Bounded<T, N> {
     pub fn push(&mut self, x: T) -> bool
         ensures answer { result ≡ nat_lt (length (items_of self.old)) N }
         ensures items_after { items_of self.new ≡ take N (items_of self.old ++ x ∷ []) }
+        ensures same_if_full { result ≡ false → self.new ≡ self.old }
     {
         if self.count < N {
             self.items[self.count] = x;

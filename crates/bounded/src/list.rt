@@ -11,6 +11,7 @@ pub struct Bounded<T, const N: usize> {
     ghost within: { count ≤ N },
 }
 
+// No derive: Rattle refuses one of `Clone` for a type with a type parameter and a ghost field.
 impl<T: Copy, const N: usize> Clone for Bounded<T, N> {
     ghost is_clone = { λ list copy. copy ≡ list };
 

@@ -46,6 +46,7 @@ pub fn verdict_under(table: &Table, named: Named) -> Verdict
     ensures value { result ≡ verdict_of (tasks_of table.now) (named_meaning (tasks_of table.now) named) }
     ensures says_of_the_endless_schedule { SaysOfEndless (tasks_of table.now) (named_meaning (tasks_of table.now) named) result }
 {
+    // each arm makes an ordering of its own type, for which the verdict is compiled
     match lowest_of(named) {
         Base::Fixed => verdict_over(table, named, Fixed::new(table)),
         Base::Deadline => verdict_over(table, named, Deadline::new(table)),

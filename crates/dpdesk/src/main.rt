@@ -49,6 +49,7 @@ fn search_text(rt: &HostRuntime, text: &[u8], base: Base) -> anyhow::Result<()> 
             .write_all(refused_line(&Refusal::from(e)).bytes())?;
         return Ok(());
     }
+    // each arm makes an ordering of its own type, for which the search is compiled
     match base {
         Base::Fixed => search(rt, &table, Fixed::new(&table)),
         Base::Deadline => search(rt, &table, Deadline::new(&table)),

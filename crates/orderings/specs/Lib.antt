@@ -9,5 +9,6 @@ pub mod BackgroundList
 pub mod Background
 pub mod Backed
 pub mod Laws
+pub mod FirstPlaces
 pub mod Placed
 pub mod Keyed

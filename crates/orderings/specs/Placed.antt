@@ -1,15 +1,13 @@
 -- Where a number stands in a list: what a search finds, and that different numbers stand at different places.
-use Rattle.std.specs.Prelude.{◌≡◌, ℕ, ◌<◌, ◌≤◌, Bool, true, false, not, ◌&&◌, ◌≢◌, List, [], ◌∷◌, ◌++◌, length, is_some, Some, position, ◌==◌, slice_index}
-use Rattle.std.specs.List.{position_or_len}
+use Rattle.std.specs.Prelude.{◌≡◌, ℕ, ◌<◌, true, false, not, ◌&&◌, ◌≢◌, List, [], ◌∷◌, ◌++◌, length, is_some, Some, None, Option, position, ◌==◌, slice_index, refl}
 use Rattle.std.proofs.Common.{sym, ap, ◌∙◌, inl, inr, arith}
-use Rattle.std.proofs.lemmas.Bool.{eqb-true, eqb-false, lt-ltb, cases_lt}
+use Rattle.std.proofs.lemmas.Bool.{eqb-true, lt-ltb, cases_lt}
 use Rattle.std.proofs.lemmas.Iterator.Adapters.{position_from-zero}
-use Rattle.std.proofs.lemmas.Bool.Decides.{nat_tests}
 use Rattle.std.proofs.lemmas.List.Quantifiers.{position-Some}
-use Rattle.std.proofs.lemmas.List.Sums.{fails_before_first}
-use Rattle.std.proofs.lemmas.List.{get_or_append_left, get_or_push, length_push}
+use Rattle.std.proofs.lemmas.List.{get_or_append_left, get_or_push, get_or-take, length_push}
 use Rattle.bounded.proofs.Held.{length_items}
 use Rattle.orderings.specs.Places.{NoneTwice, place_in}
+use Rattle.orderings.specs.FirstPlaces.{none_absent}
 use Rattle.orderings.specs.BackgroundList.{numbers_of, takes_number}
 use Rattle.orderings.specs.declared.background_list.BackgroundList.{BackgroundList}
 
@@ -24,13 +22,9 @@ number_at xs n p e = eqb-true (slice_index xs p) n (position-Some (λ x. x == n)
 pub place_apart : (xs : List ℕ) (i j : ℕ) → i ≢ j → (p : ℕ) → place_in xs i ≡ Some p → place_in xs j ≢ Some p
 place_apart xs i j ne p e f = ne (sym (number_at xs i p e) ∙ number_at xs j p f)
 
--- a number that has no place stands nowhere
-nowhere : (xs : List ℕ) (n : ℕ) → is_some (place_in xs n) ≡ false → (k : ℕ) → k < length xs → slice_index xs k ≢ n
-nowhere xs n e k h =
-    let test : ℕ → Bool = λ x. x == n in
-    let none : is_some (position test xs) ≡ false = ap is_some (sym (place_position xs n)) ∙ e in
-    let beyond : length xs ≤ position_or_len test xs = grind (arith, nat_tests) in
-    eqb-false (slice_index xs k) n (fails_before_first test xs k 0 (omega arith))
+none_from : (o : Option ℕ) → is_some o ≡ false → o ≡ None
+none_from None e = refl
+none_from (Some p) e = absurd (cc)
 
 -- one more number, that the list does not have
 pub none_twice_push : (xs : List ℕ) (n : ℕ) → NoneTwice xs → is_some (place_in xs n) ≡ false → NoneTwice (xs ++ n ∷ [])
@@ -39,7 +33,7 @@ none_twice_push xs n apart new k l kl h =
     let front = get_or_append_left xs (n ∷ []) 0 k (omega arith) in
     elim (cases_lt l (length xs)) [
       | inl g ↦ λ f. apart k l kl g (sym front ∙ f ∙ get_or_append_left xs (n ∷ []) 0 l g)
-      | inr g ↦ λ f. nowhere xs n new k (omega arith) (sym front ∙ f ∙ get_or_push xs n 0 l (omega arith))
+      | inr g ↦ λ f. none_absent 0 xs n (none_from (place_in xs n) new) k (omega arith) (sym front ∙ f ∙ get_or_push xs n 0 l (omega arith))
     ]
 
 pub takes_new : (xs : List ℕ) (n : ℕ) → length xs < 32 → is_some (place_in xs n) ≡ false → takes_number xs n ≡ true
@@ -47,3 +41,6 @@ takes_new xs n h new = ap (λ r. r && not (is_some (place_in xs n))) (lt-ltb (le
 
 pub numbers_count : (l : BackgroundList) → length (numbers_of l) ≡ l.places.count
 numbers_count l = length_items l.places
+
+pub numbers_at : (l : BackgroundList) (k : ℕ) → k < l.places.count → slice_index (numbers_of l) k ≡ slice_index l.places.items k
+numbers_at l k h = get_or-take l.places.count l.places.items k 0 h

@@ -28,7 +28,7 @@ pub struct Keyed<K> {
 }
 
 impl<K> Keyed<K> {
-    /// The ordering of a table's jobs. The making is never refused.
+    /// The ordering of a table's jobs.
     pub fn new(table: &Table) -> Keyed<K>
         ensures { result.table ≡ table.now }
     {

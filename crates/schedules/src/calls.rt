@@ -48,7 +48,7 @@ impl<'t, 'o, O: Ordering> Run<'t, 'o, O> {
         }
         let ran = self.serve();
         let miss = self.advance();
-        // a pair, as the specification asks for
+        // a rule of the project: a pair of plain numbers, who ran and who missed
         Ok((ran, miss))
     }
 

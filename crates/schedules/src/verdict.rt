@@ -18,7 +18,7 @@ pub struct Miss {
 }
 
 /// Whether all jobs of the endless full schedule meet their deadlines.
-// no Option: the specification wants an enum whose miss case holds the record
+// A rule of the project: no Option. Both answers have a name, and the miss is the record that a stuck search holds, too.
 #[derive(Clone, Copy, Debug, PartialEq, Eq)]
 pub enum Verdict {
     Holds,

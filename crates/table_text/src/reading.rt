@@ -15,7 +15,7 @@ fn past_header(text: &[u8]) -> Option<Cursor>
     ensures place { place_of result ≡ past_header text.now }
     ensures same_text { IfSome result (λ c. c.text.now ≡ text.now) }
 {
-    if !text.starts_with(&HEADER) {
+    if !text.starts_with(HEADER) {
         return None;
     }
     let mut cursor = Cursor {

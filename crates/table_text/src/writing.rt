@@ -74,7 +74,7 @@ pub fn write(table: &Table, out: &mut [u8]) -> Result<usize, WriteRefusal>
     if n > out.len() {
         return Err(WriteRefusal::BufferTooShort);
     }
-    let headed = put_bytes(out, 0, &HEADER);
-    let start = put_bytes(out, headed, &LINE_END);
+    let headed = put_bytes(out, 0, HEADER);
+    let start = put_bytes(out, headed, LINE_END);
     Ok(put_records(table.tasks(), out, start))
 }

@@ -42,7 +42,7 @@ impl TaskSet<'_> {
     {
         let own = self.tasks[i];
         let mut t = 1;
-        // the form of the specification: a loop over t that ends by `break` with the smallest one that does
+        // a rule of the project: the smallest t is found by a loop that breaks with it, and the others are added up in another
         loop {
             if t > own.d {
                 break None;
