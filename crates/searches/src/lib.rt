@@ -54,7 +54,12 @@ mod tests {
     }
 
     fn four_tasks() -> Result<Table, AddRefusal> {
-        let tasks = [task(6, 11, 0), task(6, 20, 1), task(4, 46, 2), task(5, 74, 3)];
+        let tasks = [
+            task(6, 11, 0),
+            task(6, 20, 1),
+            task(4, 46, 2),
+            task(5, 74, 3),
+        ];
         Table::try_from(tasks.as_slice())
     }
 
