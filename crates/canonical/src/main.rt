@@ -25,6 +25,7 @@ fn canonical(text: &[u8], out: &mut [u8]) -> Result<usize, Refusal>
 fn run(rt: &HostRuntime) -> anyhow::Result<()> {
     let mut text = Vec::new(rt.alloc());
     rt.stdin().take(ENOUGH).read_to_end(&mut text)?;
+    // `write` allocates nothing, and writes into what it is lent
     let mut out = [0u8; LONGEST];
     // between quotes, as a text is told on standard error
     let len = canonical(&text, &mut out).map_err(|e| anyhow!(

@@ -67,6 +67,7 @@ pub fn background_text(text: &[u8]) -> Page
 pub fn table_text(table: &Table) -> Page
     ensures { bytes_of result ≡ table_text (tasks_of table.now) }
 {
+    // `write` allocates nothing, and writes into what it is lent
     let mut out = [0u8; 4_096];
     match write(table, &mut out) {
         Ok(n) => {

@@ -147,6 +147,7 @@ impl<'a> Telling<'a> {
 
     // The columns of all tasks.
     fn tell_standings(&self) -> io::Result<()> {
+        // the runs are asked by task number
         for i in 0..self.table.len() {
             if let Ok(job) = self.runs.standing(i as u32) {
                 tell_standing(self.rt, job)?;
@@ -175,6 +176,7 @@ impl<'a> Telling<'a> {
     // Compares all tasks at an instant.
     fn compare(&mut self, instant: u32) -> io::Result<()> {
         self.found.instants = self.found.instants.saturating_add(1);
+        // the runs are asked by task number
         for i in 0..self.table.len() {
             if !self.compare_task(instant, i as u32)? {
                 self.count_fault();
