@@ -1,5 +1,5 @@
-use Rattle.std.proofs.Common.{◌≡◌, ◌<◌, length, get_or, set, sym, ap, ◌∙◌, subst, arith}
-use Rattle.tables.specs.Tasks.{nobody, Each, Timed, Ranked}
+use Rattle.std.proofs.Common.{◌<◌, length, set, sym, ap, ◌∙◌, subst, arith}
+use Rattle.tables.specs.Tasks.{Each, Timed, Ranked}
 use Rattle.tables.specs.Tables.{tasks_of}
 use Rattle.tables.specs.Hyperperiod.{hyperperiod_of}
 use Rattle.tables.specs.Setting.{with_promotion, tasks_set_by}
