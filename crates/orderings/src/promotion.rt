@@ -49,7 +49,7 @@ impl<O> PromotionLayer<O> {
 }
 
 // P2 of a promoted job.
-// By `filter` and `map` the searches of the benchmark take 8 % more instructions than by this match.
+// A match with a guard: `filter` and `map` are no plainer, and searches take 8 % more instructions with them.
 fn key(table: &Table, i: u32, a: u32) -> Option<i64>
     ensures { result ≡ promotion_key (tasks_of table.now) i a }
 {
