@@ -1,9 +1,9 @@
 #!/usr/bin/env python3
-"""Counts the places in src/ that read like the older language, at a commit or in the work tree.
+"""Counts the places in src/ at which a newer form of the language may serve, at a commit or in the work tree.
 
 Use: tools/design_counts.py [COMMIT] [-v]
 With -v each line that is counted is printed. Without a commit the work tree is read.
-A count is of lines that match, so it says where to look; docs/DESIGN-PASS.md says which of them are places.
+A count is of lines that match, so it says where to look. docs/DESIGN-PASS.md has the counts of two commits, and what was made of them.
 """
 import collections
 import re
@@ -38,20 +38,20 @@ def sources():
 FILES = sources()
 
 PATTERNS = [
-    ('1a enums of its own', r'^\s*(pub(\(crate\))? )?enum '),
-    ('1b an arm that wraps again what it took apart',
+    ('enums of the repository', r'^\s*(pub(\(crate\))? )?enum '),
+    ('an arm that wraps again what it took apart',
      r'(None|Some\(.*\)|Ok\(.*\)|Err\(.*\)) => (return )?(Some|None|Ok|Err)\b'),
-    ('1c a bool as a field, a parameter or an answer', r': bool[,)]|-> (io::Result<)?bool\b'),
-    ('1d an arm that is a number', r'=> \d+,'),
-    ('3 a loop over a range, a while or a loop', r'\bfor \w+ in [^{]*\.\.|\bwhile (?!let)|\bloop \{'),
-    ('3 of these, over the places of a list', r'\bfor \w+ in [^{]*\.\.[^{]*(len\(\)|count)|\bwhile .*len\(\)'),
-    ('4a a comparison, a conversion or a printing as an impl',
+    ('a bool as a field, a parameter or an answer', r': bool[,)]|-> (io::Result<)?bool\b'),
+    ('an arm that is a number', r'=> \d+,'),
+    ('a loop over a range, a while or a loop', r'\bfor \w+ in [^{]*\.\.|\bwhile (?!let)|\bloop \{'),
+    ('such a loop over the places of a list', r'\bfor \w+ in [^{]*\.\.[^{]*(len\(\)|count)|\bwhile .*len\(\)'),
+    ('a comparison, a conversion or a printing as an impl',
      r'^\s*impl.*\b(PartialEq|PartialOrd|Ord|Clone|From<.*>|TryFrom<.*>|FromStr|Display) for '),
-    ('4b a field copied to be printed', r'^\s*let (\w+) = [\w.]+\.(\w+);$'),
-    ('4c a text of bytes or digits by hand', r"b'0' \+|-> &'static str|push_\w*word"),
-    ('6 an array of fixed length', r'; ([0-9_]+|[A-Z]+|N)\](?! = \*b)'),
-    ('6 of bytes that are written out', r'; [0-9_]+\] =( \*b|$)'),
-    ('7 a match on which ordering or command', r'match (named|base|lowest_of\(named\)|command|word\.as_str\(\)|self) \{'),
+    ('a field copied to be printed', r'^\s*let (\w+) = [\w.]+\.(\w+);$'),
+    ('a text of bytes or digits by hand', r"b'0' \+|-> &'static str|push_\w*word"),
+    ('an array of fixed length', r'; ([0-9_]+|[A-Z]+|N)\](?! = \*b)'),
+    ('an array of bytes that are written out', r'; [0-9_]+\] =( \*b|$)'),
+    ('a match on which ordering or command', r'match (named|base|lowest_of\(named\)|command|word\.as_str\(\)|self) \{'),
 ]
 
 
@@ -67,7 +67,7 @@ for title, pattern in PATTERNS:
              if re.search(pattern, line) and not line.strip().startswith('//')]
     show(title, found)
 
-# 2: functions whose bodies have the same shape, three lines or more
+# functions whose bodies have the same shape, three lines or more
 shapes = collections.defaultdict(list)
 for n, lines in sorted(FILES.items()):
     k = 0
@@ -83,12 +83,12 @@ for n, lines in sorted(FILES.items()):
                 shapes['\n'.join(text)].append(f'{n}:{k + 1}')
             k = end
         k += 1
-show('2 functions of a shape that another has', [' ~ '.join(v) for v in shapes.values() if len(v) > 1])
+show('functions of a shape that another has', [' ~ '.join(v) for v in shapes.values() if len(v) > 1])
 
-# 5: what several contracts ask or promise in the same words
+# what several contracts ask or promise in the same words
 clauses = collections.Counter()
 for n, lines in FILES.items():
     for line in lines:
         if re.match(r'\s*requires ', line):
             clauses[line.strip()] += 1
-show('5 a requires in the same words, in three contracts or more', [f'{v} times: {c}' for c, v in clauses.most_common() if v >= 3])
+show('a requires in the same words, in three contracts or more', [f'{v} times: {c}' for c, v in clauses.most_common() if v >= 3])

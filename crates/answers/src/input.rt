@@ -5,7 +5,7 @@ ghost use Rattle.answers.specs.Inputs.{FrontIsTaken};
 use std::io;
 use std::io::Read;
 
-/// Room for a text that the programs read: one byte more than the longest, so that an overlong one is seen.
+/// Room for a text that `dpverdict` reads: one byte more than the longest, so that an overlong one is seen.
 pub const ROOM: usize = 4_097;
 
 /// Reads until the buffer is full or the input ends, and answers how many bytes were read. They stand at the buffer's front.

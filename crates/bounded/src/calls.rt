@@ -28,7 +28,8 @@ impl<T: Copy, const N: usize> Bounded<T, N> {
         &self.items[..self.count]
     }
 
-    /// Writes an item behind the others and answers true. Answers false and leaves the list as it was where `N` are in it.
+    /// Writes an item behind the others and answers true. Answers false and leaves the list as it was where `N` are in it:
+    /// an ordinary answer, not a refusal.
     pub fn push(&mut self, x: T) -> bool
         ensures answer { result ≡ nat_lt (length (items_of self.old)) N }
         ensures items_after { items_of self.new ≡ take N (items_of self.old ++ x ∷ []) }

@@ -3,6 +3,7 @@ ghost use Rattle.std.specs.Prelude.{◌≡◌, ◌≤◌, length, ⊤};
 use std::alloc::AllocError;
 
 /// A list of at most `N` items, in memory of its own: the first `count` places, and what stands behind them means nothing.
+// Not the kit's `arrayvec`: a list of that crate cannot be copied, and a table can.
 #[derive(Copy)]
 pub struct Bounded<T, const N: usize> {
     pub(crate) items: [T; N],

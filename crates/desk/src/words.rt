@@ -1,8 +1,8 @@
-ghost use Rattle.std.specs.Prelude.{◌≡◌, map, Some};
+ghost use Rattle.std.specs.Prelude.{◌≡◌, map, Some, Err, MatchOption};
 ghost use Rattle.std.specs.String.{string_bytes};
 ghost use Rattle.std.specs.Option.{ok_or, option_map};
 ghost use Rattle.desk.specs.declared.commands.Expected.TheVariants.{AnOrdering, ABase};
-ghost use Rattle.desk.specs.Words.{named_text, named_of, base_of, only_word, verdict_command, search_command, lone_command, command_by, expected_text};
+ghost use Rattle.desk.specs.Words.{named_text, named_of, base_of, only_word, lone_command, command_by, expected_text};
 
 use crate::commands::{Command, Expected};
 use crate::naming::{Base, Named};
@@ -83,20 +83,14 @@ fn only(words: &[String]) -> Option<&str>
     }
 }
 
-// The words behind `verdict`: one ordering.
-fn verdict_command(words: &[String]) -> Result<Command, Expected>
-    ensures { result ≡ verdict_command (map string_bytes words.now) }
+// What the one word is the name of; where there is not one word, `expected` is.
+fn one_named<T: FromStr<Err = Expected> + Drop>(
+    words: &[String],
+    expected: Expected,
+) -> Result<T, Expected>
+    ensures { MatchOption (only_word (map string_bytes words.now)) (result ≡ Err expected) (λ w. T.from_str_gives w result) }
 {
-    let word = only(words).ok_or(Expected::AnOrdering)?;
-    Ok(Command::Verdict(word.parse()?))
-}
-
-// The words behind `search`: one ordering that stands on no other.
-fn search_command(words: &[String]) -> Result<Command, Expected>
-    ensures { result ≡ search_command (map string_bytes words.now) }
-{
-    let word = only(words).ok_or(Expected::ABase)?;
-    Ok(Command::Search(word.parse()?))
+    only(words).ok_or(expected)?.parse()
 }
 
 // A command that no word stands behind.
@@ -118,8 +112,8 @@ pub fn command_of(words: &[String]) -> Result<Command, Expected>
         return Err(Expected::ACommand);
     };
     match word.as_str() {
-        "verdict" => verdict_command(rest),
-        "search" => search_command(rest),
+        "verdict" => Ok(Command::Verdict(one_named(rest, Expected::AnOrdering)?)),
+        "search" => Ok(Command::Search(one_named(rest, Expected::ABase)?)),
         "laxity" => alone(Command::Laxity, rest),
         "background" => alone(Command::Background, rest),
         _ => Err(Expected::ACommand),

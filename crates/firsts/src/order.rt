@@ -3,6 +3,7 @@ ghost use Rattle.std.specs.Option.{option_map};
 ghost use Rattle.firsts.specs.First.{first_in_order, Distinct, ExclusiveOn, TransitiveOn, IsFirst};
 
 /// An order among items of any kind.
+// A rule of the project: a trait. An order may hold what it goes by, as an ordering holds its table, and has a meaning.
 pub trait Order<T> {
     /// The meaning: does the first item precede the second?
     ghost precedes: { Self → T → T → Bool };

@@ -1,7 +1,7 @@
 -- The place of a number is the first at which it stands.
-use Rattle.std.specs.Prelude.{◌≡◌, ℕ, zero, suc, ◌+◌, ◌<◌, ◌≢◌, List, [], ◌∷◌, length, Some, None, ◌==◌, slice_index, refl}
-use Rattle.std.proofs.Common.{sym, ap, ◌∙◌, arith}
-use Rattle.std.proofs.lemmas.Bool.{cond-true, cond-false, eq-eqb, ne_eqb}
+use Rattle.std.specs.Prelude.{◌≡◌, ℕ, zero, suc, ◌+◌, ◌<◌, ◌≤◌, ◌≢◌, List, [], ◌∷◌, length, Some, None, ◌==◌, slice_index, refl}
+use Rattle.std.proofs.Common.{sym, ap, ◌∙◌, inl, inr, arith}
+use Rattle.std.proofs.lemmas.Bool.{cond-true, cond-false, eq-eqb, ne_eqb, cases_eq}
 use Rattle.orderings.specs.Places.{place_from}
 
 here : (k x : ℕ) (xs : List ℕ) (n : ℕ) → x ≡ n → place_from k (x ∷ xs) n ≡ Some k
@@ -32,3 +32,39 @@ pub none_absent : (k : ℕ) (xs : List ℕ) (n : ℕ) → place_from k xs n ≡ 
 none_absent k [] n e l h = let z : ⊥ = omega arith in absurd z
 none_absent k (x ∷ xs) n e zero h = not_here k x xs n e
 none_absent k (x ∷ xs) n e (suc l) h = none_absent (k + 1) xs n (sym (further k x xs n (not_here k x xs n e)) ∙ e) l (omega arith)
+
+-- a place is counted from k
+pub not_before : (k : ℕ) (xs : List ℕ) (n p : ℕ) → place_from k xs n ≡ Some p → k ≤ p
+not_before k [] n p e = let z : ◌≡◌ {A = ℕ} 0 1 = cc in omega arith
+not_before k (x ∷ xs) n p e =
+    elim (cases_eq x n) [
+      | inl f ↦ let found = here k x xs n f in let q : k ≡ p = cc in omega arith
+      | inr ne ↦ let l = not_before (k + 1) xs n p (sym (further k x xs n ne) ∙ e) in omega arith
+    ]
+
+-- two numbers at one place are one
+pub same_from : (k : ℕ) (xs : List ℕ) (i j p : ℕ) → place_from k xs i ≡ Some p → place_from k xs j ≡ Some p → i ≡ j
+same_from k [] i j p e f = let z : ◌≡◌ {A = ℕ} 0 1 = cc in let w : ⊥ = omega arith in absurd w
+same_from k (x ∷ xs) i j p e f =
+    elim (cases_eq x i) [
+      | inl u ↦
+          elim (cases_eq x j) [
+            | inl v ↦ sym u ∙ v
+            | inr nv ↦
+                let found = here k x xs i u in
+                let q : k ≡ p = cc in
+                let l = not_before (k + 1) xs j p (sym (further k x xs j nv) ∙ f) in
+                let w : ⊥ = omega arith in
+                absurd w
+          ]
+      | inr nu ↦
+          elim (cases_eq x j) [
+            | inl v ↦
+                let found = here k x xs j v in
+                let q : k ≡ p = cc in
+                let l = not_before (k + 1) xs i p (sym (further k x xs i nu) ∙ e) in
+                let w : ⊥ = omega arith in
+                absurd w
+            | inr nv ↦ same_from (k + 1) xs i j p (sym (further k x xs i nu) ∙ e) (sym (further k x xs j nv) ∙ f)
+          ]
+    ]

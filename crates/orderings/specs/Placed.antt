@@ -1,26 +1,17 @@
 -- Where a number stands in a list: what a search finds, and that different numbers stand at different places.
-use Rattle.std.specs.Prelude.{◌≡◌, ℕ, ◌<◌, true, false, not, ◌&&◌, ◌≢◌, List, [], ◌∷◌, ◌++◌, length, is_some, Some, None, Option, position, ◌==◌, slice_index, refl}
+use Rattle.std.specs.Prelude.{◌≡◌, ℕ, ◌<◌, true, false, not, ◌&&◌, ◌≢◌, List, [], ◌∷◌, ◌++◌, length, is_some, Some, None, Option, slice_index, refl}
 use Rattle.std.proofs.Common.{sym, ap, ◌∙◌, inl, inr, arith}
-use Rattle.std.proofs.lemmas.Bool.{eqb-true, lt-ltb, cases_lt}
-use Rattle.std.proofs.lemmas.Iterator.Adapters.{position_from-zero}
-use Rattle.std.proofs.lemmas.List.Quantifiers.{position-Some}
+use Rattle.std.proofs.lemmas.Bool.{lt-ltb, cases_lt}
 use Rattle.std.proofs.lemmas.List.{get_or_append_left, get_or_push, get_or-take, length_push}
 use Rattle.bounded.proofs.Held.{length_items}
 use Rattle.orderings.specs.Places.{NoneTwice, place_in}
-use Rattle.orderings.specs.FirstPlaces.{none_absent}
+use Rattle.orderings.specs.FirstPlaces.{none_absent, same_from}
 use Rattle.orderings.specs.BackgroundList.{numbers_of, takes_number}
 use Rattle.orderings.specs.declared.background_list.BackgroundList.{BackgroundList}
 
--- the library's `position`
-place_position : (xs : List ℕ) (n : ℕ) → place_in xs n ≡ position (λ x. x == n) xs
-place_position xs n = sym (position_from-zero (λ x. x == n) xs)
-
-number_at : (xs : List ℕ) (n p : ℕ) → place_in xs n ≡ Some p → slice_index xs p ≡ n
-number_at xs n p e = eqb-true (slice_index xs p) n (position-Some (λ x. x == n) xs p 0 (sym (place_position xs n) ∙ e)).1
-
 -- different numbers stand at different places
 pub place_apart : (xs : List ℕ) (i j : ℕ) → i ≢ j → (p : ℕ) → place_in xs i ≡ Some p → place_in xs j ≢ Some p
-place_apart xs i j ne p e f = ne (sym (number_at xs i p e) ∙ number_at xs j p f)
+place_apart xs i j ne p e f = ne (same_from 0 xs i j p e f)
 
 none_from : (o : Option ℕ) → is_some o ≡ false → o ≡ None
 none_from None e = refl

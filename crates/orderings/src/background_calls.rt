@@ -31,7 +31,7 @@ impl BackgroundList {
 
     /// Writes a number at the list's end and answers true. Answers false and leaves the list as it was where the number
     /// is in it already or 32 are: an ordinary answer, not a refusal.
-    // A rule of the project: a `bool`, since nothing is refused.
+    // A `bool`: a number that is there already, or a full list, is no fault of the call, so nothing is refused.
     pub fn take(&mut self, number: u32) -> bool
         ensures answer { result ≡ takes_number (numbers_of self.old) number }
         ensures numbers_after { numbers_of self.new ≡ numbers_after_taking (numbers_of self.old) number }

@@ -2,6 +2,7 @@ ghost use Rattle.std.specs.Prelude.{◌≡◌};
 ghost use Rattle.orderings.specs.Meaning.{Meaning, Exclusive, Transitive, Irreflexive};
 
 /// An order among jobs. A job is named by its task number and its age, the units since its release.
+// A rule of the project: one question with plain numbers, and its meaning and laws beside it.
 pub trait Ordering {
     /// The meaning: is the job of task i at age a ahead of that of task j at age b?
     ghost ahead: { Self → Meaning };

@@ -49,7 +49,7 @@ impl<O> PromotionLayer<O> {
 }
 
 // P2 of a promoted job.
-// A match with a guard: `filter` and `map` are no plainer, and searches take 8 % more instructions with them.
+// A match with a guard: `filter` and `map` are no plainer, and searches are slower with them.
 fn key(table: &Table, i: u32, a: u32) -> Option<i64>
     ensures { result ≡ promotion_key (tasks_of table.now) i a }
 {

@@ -12,8 +12,8 @@ pub struct Run<'t, 'o, O> {
     pub(crate) table: &'t Table,
     pub(crate) ordering: &'o O,
     pub(crate) progress: Progress,
-    // room to gather the ready jobs of a unit; what it holds between ticks means nothing
-    // no `Bounded`: each slot's job is written and only a ready one counted, which a push does not do
+    // Room to gather the ready jobs of a unit. What it holds between ticks means nothing. It is no `Bounded`: each slot's
+    // job is written and only a ready one counted, which a push does not do.
     pub(crate) ready: [Job; 32],
     ghost wide: { length progress.slots ≡ 32 },
     ghost room: { length ready ≡ 32 },

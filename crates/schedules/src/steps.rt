@@ -13,7 +13,7 @@ use orderings::ordering::Ordering;
 use tables::task::Task;
 
 // Gathers the ready jobs at the front of `ready`, in the order of their numbers, and tells how many there are.
-// It tells a number and lends no slice: of the length of what a result was lent from, a proof knows nothing afterwards.
+// It tells a number and lends no slice: once a slice of `ready` is lent as a result, a proof has lost the length of `ready`.
 fn gather(slots: &[Slot], ready: &mut [Job]) -> usize
     requires few { length slots.now ≤ 32 }
     requires room { length slots.now ≤ length ready.old }
@@ -59,7 +59,7 @@ fn grow(tasks: &[Task], slots: &mut [Slot]) -> Grown
 {
     let mut miss = None;
     let mut due = false;
-    // no zip with the tasks: a proof knows nothing of slots that were lent through one
+    // no zip with the tasks: what a zip lends can be written, and a proof does not learn what was
     for (k, slot) in slots.iter_mut().enumerate() {
         let task = &tasks[k];
         slot.age += 1;

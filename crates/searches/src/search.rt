@@ -2,6 +2,7 @@ use orderings::promotion::PromotionLayer;
 use schedules::verdict::Miss;
 
 /// How far a search is.
+// A rule of the project: the search and a round's answer are two enums, and stuck holds the record of the verdict's miss.
 #[derive(Clone, Copy, Debug, PartialEq, Eq)]
 pub enum Stage {
     /// There may be promotion times to lower.

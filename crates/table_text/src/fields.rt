@@ -26,6 +26,7 @@ fn plain_number(s: &[u8]) -> Option<u32>
     if n < least || n > most {
         return None;
     }
+    // by hand: the library's `parse` takes a sign, too
     let mut v = 0;
     for b in s {
         if !b.is_ascii_digit() {

@@ -3,3 +3,4 @@ pub mod Multiples
 pub mod Counted
 pub mod Added
 pub mod Set
+pub mod Equal

@@ -6,6 +6,7 @@ use crate::task::Task;
 use bounded::list::Bounded;
 
 /// A table of 0 to 32 tasks, numbered from 0 as they were added. Every table keeps the bounds below.
+// A rule of the project: the array lies in an inner struct, and the table carries what is true of its tasks.
 #[derive(Clone, Copy)]
 pub struct Table {
     pub(crate) rows: Bounded<Task, 32>,

@@ -25,6 +25,7 @@ pub fn set_by_laxity(table: &mut Table) -> Result<(), LaxityRefusal>
 {
     // the times are set in a copy, so a refused call leaves the table as it was
     let mut after = *table;
+    // by number, since a task's number is what a refusal names
     for i in 0..table.len() {
         let s = lax_time(table, i).ok_or(LaxityRefusal::NoResponse(i as u32))?;
         // S is at most D here, so no setting is refused

@@ -52,6 +52,7 @@ pub fn own_background_list(table: &Table) -> BackgroundList
 {
     let mut left = TaskSet::all(table);
     let mut list = BackgroundList::new();
+    // a counted loop: that a `while let` ends would need a measure of its own
     for _ in 0..table.len() {
         let Some(x) = left.next() else { break };
         // the list has no member of the set yet, so it always takes this one
