@@ -2,9 +2,10 @@
 
 mod runs;
 
-use crate::runs::{EarlyFinish, Runs, Sides, Standing, agree};
+use crate::runs::{EarlyFinish, Runs, Sides, agree};
 use answers::printing::printed;
 use orderings::two_phase::TwoPhase;
+use schedules::slot::Slot;
 use schedules::verdict::{Miss, Verdict};
 use std::io;
 use std::io::{Read, Write};
@@ -86,7 +87,7 @@ fn tell_unit(rt: &HostRuntime, n: u32, ran: Sides<Option<u32>>) -> io::Result<()
     print!(rt; " {instant:>7} |")
 }
 
-fn tell_standing(rt: &HostRuntime, job: Sides<Standing>) -> io::Result<()> {
+fn tell_standing(rt: &HostRuntime, job: Sides<Slot>) -> io::Result<()> {
     let Sides { full, live } = job;
     print!(rt; " {:>3}  {:>4}  {:>4} |", full.age, full.left, live.left)
 }
@@ -104,7 +105,7 @@ fn tell_finish(rt: &HostRuntime, finish: Option<EarlyFinish>) -> io::Result<()> 
 
 // That a task does not agree. Up to the full schedule's first miss no task comes to this, which the contract of
 // `Verdict::of` promises; the program does not rely on it.
-fn tell_fault(rt: &HostRuntime, instant: u32, i: u32, job: Sides<Standing>) -> io::Result<()> {
+fn tell_fault(rt: &HostRuntime, instant: u32, i: u32, job: Sides<Slot>) -> io::Result<()> {
     let Sides { full, live } = job;
     print!(rt; "Instant {instant}: task {i} does not agree: ")?;
     print!(rt;
@@ -156,17 +157,16 @@ impl<'a> Telling<'a> {
         Ok(())
     }
 
-    // Compares a task at an instant. True where it agrees; else it is told.
-    fn compare_task(&self, instant: u32, i: u32) -> io::Result<bool> {
-        // every task of the table has a job in both runs
-        let Ok(job) = self.runs.standing(i) else {
-            println!(self.rt; "Instant {instant}: task {i} cannot be compared.")?;
-            return Ok(false);
-        };
-        if !agree(job) {
-            tell_fault(self.rt, instant, i, job)?;
+    // Compares a task at an instant. Where it does not agree, that is told and counted.
+    fn compare_task(&mut self, instant: u32, i: u32) -> io::Result<()> {
+        match self.runs.standing(i) {
+            Ok(job) if agree(job) => return Ok(()),
+            Ok(job) => tell_fault(self.rt, instant, i, job)?,
+            // every task of the table has a job in both runs
+            Err(_) => println!(self.rt; "Instant {instant}: task {i} cannot be compared.")?,
         }
-        Ok(agree(job))
+        self.count_fault();
+        Ok(())
     }
 
     fn count_fault(&mut self) {
@@ -178,9 +178,7 @@ impl<'a> Telling<'a> {
         self.found.instants = self.found.instants.saturating_add(1);
         // the runs are asked by task number
         for i in 0..self.table.len() {
-            if !self.compare_task(instant, i as u32)? {
-                self.count_fault();
-            }
+            self.compare_task(instant, i as u32)?;
         }
         Ok(())
     }

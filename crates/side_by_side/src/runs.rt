@@ -7,6 +7,7 @@ ghost use Rattle.side_by_side.specs.Ticks.{answer_of_tick, state_after_tick};
 use orderings::two_phase::TwoPhase;
 use refusals::kinds::{QuestionRefusal, TickRefusal};
 use schedules::run::Run;
+use schedules::slot::Slot;
 use tables::table::Table;
 use tables::task::Task;
 
@@ -15,15 +16,6 @@ use tables::task::Task;
 pub struct Sides<T> {
     pub full: T,
     pub live: T,
-}
-
-/// How far the present job of a task is.
-#[derive(Clone, Copy)]
-pub struct Standing {
-    /// The units since its release.
-    pub age: u32,
-    /// The units that it may still use.
-    pub left: u32,
 }
 
 /// What one unit brought: the tasks that ran, and the tasks that missed at its end.
@@ -49,7 +41,7 @@ pub struct Runs<'t, 'o> {
 }
 
 /// Whether the ages are equal, and no more units are left in the live run.
-pub(crate) fn agree(job: Sides<Standing>) -> bool
+pub(crate) fn agree(job: Sides<Slot>) -> bool
     ensures { result ≡ (job.full.age == job.live.age && nat_le job.live.left job.full.left) }
 {
     job.full.age == job.live.age && job.live.left <= job.full.left
@@ -73,11 +65,11 @@ fn has_run_once(left: u32, x: Task) -> bool
     0 < left && left < x.c && x.c - left == 1
 }
 
-fn standing_in(run: &Run<TwoPhase>, i: u32) -> Result<Standing, QuestionRefusal>
+fn standing_in(run: &Run<TwoPhase>, i: u32) -> Result<Slot, QuestionRefusal>
     ensures age { IfOk result (λ s. age_answer (state_of_run run.now) i ≡ Ok s.age) }
     ensures left { IfOk result (λ s. left_answer (state_of_run run.now) i ≡ Ok s.left) }
 {
-    Ok(Standing {
+    Ok(Slot {
         age: run.age(i)?,
         left: run.left(i)?,
     })
@@ -143,7 +135,7 @@ impl<'t, 'o> Runs<'t, 'o> {
     }
 
     /// The present job of a task in both runs.
-    pub(crate) fn standing(&self, i: u32) -> Result<Sides<Standing>, QuestionRefusal>
+    pub(crate) fn standing(&self, i: u32) -> Result<Sides<Slot>, QuestionRefusal>
         ensures full_age { IfOk result (λ j. age_answer (state_of_run self.now.full) i ≡ Ok j.full.age) }
         ensures full_left { IfOk result (λ j. left_answer (state_of_run self.now.full) i ≡ Ok j.full.left) }
         ensures live_age { IfOk result (λ j. age_answer (state_of_run self.now.live) i ≡ Ok j.live.age) }

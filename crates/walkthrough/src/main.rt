@@ -50,35 +50,6 @@ fn tell_unit(rt: &HostRuntime, n: u32, ran: Option<u32>) -> io::Result<()> {
     }
 }
 
-// What is new about a task's job at an instant: its release at age 0, and its promotion at age S if units are left.
-fn tell_job(
-    rt: &HostRuntime,
-    instant: u32,
-    i: u32,
-    x: Task,
-    run: &Run<TwoPhase>,
-) -> io::Result<()> {
-    if let (Ok(age), Ok(units)) = (run.age(i), run.left(i)) {
-        if age == 0 {
-            println!(rt; "Instant {instant}: task {i} is released, with {units} units.")?;
-        }
-        if age == x.s && units > 0 {
-            println!(rt;
-                "Instant {instant}: task {i} is promoted, its priority number is now {}.",
-                x.p2
-            )?;
-        }
-    }
-    Ok(())
-}
-
-fn tell_jobs(rt: &HostRuntime, instant: u32, table: &Table, run: &Run<TwoPhase>) -> io::Result<()> {
-    for (i, x) in table.tasks().iter().enumerate() {
-        tell_job(rt, instant, i as u32, *x, run)?;
-    }
-    Ok(())
-}
-
 fn tell_verdict(rt: &HostRuntime, ordering: &str, verdict: Verdict) -> io::Result<()> {
     match verdict {
         Verdict::Holds => println!(rt;
@@ -97,32 +68,70 @@ fn tell_verdicts(rt: &HostRuntime, table: &Table) -> io::Result<()> {
     tell_verdict(rt, "deadline", Verdict::of(table, &Deadline::new(table)))
 }
 
-// One tick of the run, told. It breaks off where the run came to a miss.
-fn tell_tick(
-    rt: &HostRuntime,
-    n: u32,
-    table: &Table,
-    run: &mut Run<TwoPhase>,
-) -> io::Result<ControlFlow<()>> {
-    let instant = n.saturating_add(1);
-    let Ok((ran, missed)) = run.tick() else {
-        return Ok(ControlFlow::Break(()));
-    };
-    tell_unit(rt, n, ran)?;
-    if let Some(i) = missed {
-        println!(rt; "Instant {instant}: task {i} misses its deadline, and the run ends.")?;
-        return Ok(ControlFlow::Break(()));
+// The full schedule of a table while it is told.
+#[derive(Drop)]
+struct Telling<'a> {
+    rt: &'a HostRuntime,
+    table: &'a Table,
+    run: Run<'a, 'a, TwoPhase>,
+}
+
+impl<'a> Telling<'a> {
+    fn new(rt: &'a HostRuntime, table: &'a Table, ordering: &'a TwoPhase) -> Telling<'a> {
+        Telling {
+            rt,
+            table,
+            run: Run::new(table, ordering),
+        }
     }
-    tell_jobs(rt, instant, table, run)?;
-    Ok(ControlFlow::Continue(()))
+
+    // What is new about a task's job at an instant: its release at age 0, and its promotion at age S if units are left.
+    fn tell_job(&self, instant: u32, i: u32, x: Task) -> io::Result<()> {
+        if let (Ok(age), Ok(units)) = (self.run.age(i), self.run.left(i)) {
+            if age == 0 {
+                println!(self.rt; "Instant {instant}: task {i} is released, with {units} units.")?;
+            }
+            if age == x.s && units > 0 {
+                println!(self.rt;
+                    "Instant {instant}: task {i} is promoted, its priority number is now {}.",
+                    x.p2
+                )?;
+            }
+        }
+        Ok(())
+    }
+
+    fn tell_jobs(&self, instant: u32) -> io::Result<()> {
+        for (i, x) in self.table.tasks().iter().enumerate() {
+            self.tell_job(instant, i as u32, *x)?;
+        }
+        Ok(())
+    }
+
+    // One tick of the run, told. It breaks off where the run came to a miss.
+    fn tell_tick(&mut self, n: u32) -> io::Result<ControlFlow<()>> {
+        let instant = n.saturating_add(1);
+        let Ok((ran, missed)) = self.run.tick() else {
+            return Ok(ControlFlow::Break(()));
+        };
+        tell_unit(self.rt, n, ran)?;
+        if let Some(i) = missed {
+            println!(self.rt;
+                "Instant {instant}: task {i} misses its deadline, and the run ends."
+            )?;
+            return Ok(ControlFlow::Break(()));
+        }
+        self.tell_jobs(instant)?;
+        Ok(ControlFlow::Continue(()))
+    }
 }
 
 fn tell_run(rt: &HostRuntime, table: &Table) -> io::Result<()> {
     let ordering = TwoPhase::new(table);
-    let mut run = Run::new(table, &ordering);
-    tell_jobs(rt, 0, table, &run)?;
+    let mut telling = Telling::new(rt, table, &ordering);
+    telling.tell_jobs(0)?;
     for n in 0..table.hyperperiod().min(TOLD) {
-        if let ControlFlow::Break(()) = tell_tick(rt, n, table, &mut run)? {
+        if let ControlFlow::Break(()) = telling.tell_tick(n)? {
             break;
         }
     }
