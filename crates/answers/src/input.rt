@@ -4,9 +4,10 @@ ghost use Rattle.answers.specs.Inputs.{FrontIsTaken};
 
 use std::io;
 use std::io::Read;
+use table_text::reading::LONGEST;
 
 /// Room for a text that `dpverdict` reads: one byte more than the longest, so that an overlong one is seen.
-pub const ROOM: usize = 4_097;
+pub const ROOM: usize = LONGEST + 1;
 
 /// Reads until the buffer is full or the input ends, and answers how many bytes were read. They stand at the buffer's front.
 /// After an error the bytes that came before it stand there. What is said of bytes is said where the input's are known: those

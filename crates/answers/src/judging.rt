@@ -8,6 +8,7 @@ use table_text::reading::read;
 use tables::table::Table;
 
 /// Reads a table text and judges its table under the two-phase ordering.
+// A function for this and the like one under a named ordering would take the verdict as a closure, and so have a `requires`.
 pub fn judge(text: &[u8]) -> Answer
     ensures value { result ≡ answer_to text.now }
     ensures true_of_the_endless_schedule { TrueOf text.now result }

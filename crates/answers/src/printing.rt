@@ -6,11 +6,9 @@ use crate::answer::{Answer, Judged};
 use crate::columns::{Columns, Word};
 use refusals::kinds::{ReadRefusal, Refusal};
 use schedules::verdict::Verdict;
-use texts::text::Line;
+use texts::text::{LINE_END, Line};
 
 const HEADER: &[u8] = b"answer,task,instant,hyperperiod,refusal,record,field\r\n";
-
-const LINE_END: &[u8] = b"\r\n";
 
 // The fields of the record that tells of a table.
 fn judged_columns(judged: Judged) -> Columns

@@ -5,12 +5,9 @@ ghost use Rattle.std.specs.Prelude.{◌≤◌, length, IfOk};
 use anyhow::anyhow;
 use refusals::kinds::Refusal;
 use std::io::{Read, Write};
-use table_text::reading::{ENOUGH, read};
+use table_text::reading::{ENOUGH, LONGEST, read};
 use table_text::writing::write;
 use tables::table::Table;
-
-// No table's text is longer.
-const LONGEST: usize = 4_096;
 
 // Reads a table text and writes it again at the front of a buffer, and answers how long it is there: nothing quoted, no
 // leading zeros, every record ended.

@@ -1,11 +1,11 @@
 -- Words in a list of words.
-use Rattle.std.proofs.Common.{◌≡◌, ℕ, Bool, true, false, eqb, List, [], ◌∷◌, map, length, Some, None, Ok, Err, codes, sym, refl, ap, ◌∙◌, arith, true-eqb, false-eqb}
+use Rattle.std.proofs.Common.{◌≡◌, ℕ, Bool, true, false, eqb, List, [], ◌∷◌, map, length, Ok, Err, codes, sym, refl, ap, ◌∙◌, arith, true-eqb, false-eqb}
 use Rattle.std.specs.Str.{bytes_eq}
 use Rattle.std.proofs.lemmas.Slice.Eq.{bytes_eq-Decides}
 use Rattle.std.proofs.lemmas.Bool.{cond-false}
 use Rattle.desk.specs.declared.commands.Command.{Command}
 use Rattle.desk.specs.declared.commands.Expected.TheVariants.{ACommand, NoMore}
-use Rattle.desk.specs.Words.{only_word, lone_command, command_by, command_behind}
+use Rattle.desk.specs.Words.{lone_command, command_by, command_behind}
 
 not_true : (b : Bool) → (b ≡ true → ⊥) → b ≡ false
 not_true true h = absurd (h refl)
@@ -22,18 +22,6 @@ unknown w ws v s l b =
     ∙ cond-false _ _ _ (differs w (codes "background") b)
 
 module _ {X : Type 0} (word : X → List ℕ) where
-  pub one_only : (x : X) (xs ys : List X) → ys ≡ x ∷ xs → true ≡ eqb (length xs) 0 → Some (word x) ≡ only_word (map word ys)
-  one_only x [] ys e t = ap (λ zs. only_word (map word zs)) (sym e)
-  one_only x (y ∷ xs) ys e t = let z = true-eqb (length (y ∷ xs)) 0 t in absurd (let w : ⊥ = omega arith in w)
-
-  pub not_one : (x : X) (xs ys : List X) → ys ≡ x ∷ xs → false ≡ eqb (length xs) 0 → None ≡ only_word (map word ys)
-  not_one x [] ys e t = absurd (false-eqb 0 0 t refl)
-  not_one x (y ∷ xs) ys e t = ap (λ zs. only_word (map word zs)) (sym e)
-
-  pub none_only : (xs : List X) → length xs ≡ 0 → None ≡ only_word (map word xs)
-  none_only [] e = refl
-  none_only (x ∷ xs) e = absurd (let w : ⊥ = omega arith in w)
-
   pub none_behind : (k : Command) (xs : List X) → true ≡ eqb (length xs) 0 → Ok k ≡ lone_command k (map word xs)
   none_behind k [] t = refl
   none_behind k (x ∷ xs) t = let z = true-eqb (length (x ∷ xs)) 0 t in absurd (let w : ⊥ = omega arith in w)

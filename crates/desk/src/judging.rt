@@ -26,7 +26,8 @@ fn lowest_of(named: Named) -> Base
     }
 }
 
-// The verdict under the layer of a named ordering, over a lower ordering.
+// The verdict under the layer of a named ordering, over a lower ordering. Of the name only the layer counts here; a type for
+// the layer alone would be a second enum of the same three cases.
 fn verdict_over<O: Ordering + Drop>(table: &Table, named: Named, lower: O) -> Verdict
     ensures value { result ≡ verdict_of (tasks_of table.now) (layered (tasks_of table.now) named (O.ahead lower)) }
     ensures says_of_the_endless_schedule { SaysOfEndless (tasks_of table.now) (layered (tasks_of table.now) named (O.ahead lower)) result }
@@ -55,6 +56,7 @@ pub fn verdict_under(table: &Table, named: Named) -> Verdict
 }
 
 /// Reads a table text and judges its table under a named ordering.
+// A function for this and `judge` would take the verdict as a closure, and so have a `requires`.
 pub fn judge_under(text: &[u8], named: Named) -> Answer
     ensures value { result ≡ answer_under named text.now }
     ensures true_of_the_endless_schedule { TrueUnder named text.now result }

@@ -8,7 +8,7 @@ use crate::judging::judge_under;
 use crate::naming::Named;
 use crate::printing::{number_line, refused_line, verdict_line};
 use refusals::kinds::Refusal;
-use table_text::reading::read;
+use table_text::reading::{LONGEST, read};
 use table_text::writing::write;
 use tables::table::Table;
 use texts::text::{Line, Page};
@@ -68,7 +68,7 @@ pub fn table_text(table: &Table) -> Page
     ensures { bytes_of result ≡ table_text (tasks_of table.now) }
 {
     // `write` allocates nothing, and writes into what it is lent
-    let mut out = [0u8; 4_096];
+    let mut out = [0u8; LONGEST];
     match write(table, &mut out) {
         Ok(n) => {
             let mut page = Page::new();

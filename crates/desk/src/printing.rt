@@ -7,13 +7,11 @@ use answers::answer::Answer;
 use answers::printing::{push_column, push_record};
 use refusals::kinds::Refusal;
 use searches::search::Round;
-use texts::text::Line;
+use texts::text::{LINE_END, Line};
 
 const REFUSED_HEADER: &[u8] = b"answer,task,refusal,record,field\r\n";
 
 const ROUNDS_HEADER: &[u8] = b"round,answer,task,instant\r\n";
-
-const LINE_END: &[u8] = b"\r\n";
 
 /// The record of an answer under a named ordering.
 pub(crate) fn verdict_line(named: Named, answer: &Answer) -> Line

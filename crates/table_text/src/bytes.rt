@@ -11,6 +11,3 @@ pub(crate) const ZERO: u8 = b'0';
 
 // The header record, without what ends it.
 pub(crate) const HEADER: &[u8] = b"C,D,T,P1,P2,S";
-
-// What ends a record.
-pub(crate) const LINE_END: &[u8] = b"\r\n";

@@ -40,8 +40,11 @@ fn read_records(mut cursor: Cursor) -> Result<Table, ReadRefusal>
     Ok(table)
 }
 
+/// No text of a table is longer.
+pub const LONGEST: usize = 4_096;
+
 /// So many bytes of an input settle its reading: one more than the longest text, so that an overlong one is refused.
-pub const ENOUGH: u64 = 4_097;
+pub const ENOUGH: u64 = LONGEST as u64 + 1;
 
 /// Reads a table text and puts its table in the target's place. A refused reading leaves the target as it was.
 #[tactic(auto, using(crate::proofs::Steps::table_too_long, crate::proofs::Steps::table_after_header))]
@@ -51,8 +54,7 @@ pub fn read(text: &[u8], target: &mut Table) -> Result<(), ReadRefusal>
     ensures written_again_reads_the_same { OnOk result (ReadsBack (tasks_of target.new)) }
     ensures same_if_refused { OnErr result (target.new ≡ target.old) }
 {
-    let most = 4_096;
-    if text.len() > most {
+    if text.len() > LONGEST {
         return Err(ReadRefusal::TextTooLong);
     }
     let Some(cursor) = past_header(text) else {

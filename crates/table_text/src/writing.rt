@@ -5,12 +5,12 @@ ghost use Rattle.tables.specs.Tables.{tasks_of};
 ghost use Rattle.table_text.specs.Puts.{Put};
 ghost use Rattle.table_text.specs.Written.{field_text, record_text, table_text, write_answer, buffer_after, ReadsBack};
 
-use crate::bytes::{CARRIAGE_RETURN, COMMA, HEADER, LINE_END, LINE_FEED};
+use crate::bytes::{CARRIAGE_RETURN, COMMA, HEADER, LINE_FEED};
 use crate::puts::put_bytes;
 use refusals::kinds::WriteRefusal;
 use tables::table::Table;
 use tables::task::Task;
-use texts::text::Line;
+use texts::text::{LINE_END, Line};
 
 // A number and the byte behind it: at most 11 bytes.
 fn push_field(line: &mut Line, v: u32, b: u8)

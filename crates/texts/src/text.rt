@@ -1,5 +1,8 @@
 use bounded::list::Bounded;
 
+/// What ends a record of any text that is read, printed or written.
+pub const LINE_END: &[u8] = b"\r\n";
+
 /// A text of at most `N` bytes.
 #[derive(Clone, Copy)]
 pub struct Text<const N: usize> {
