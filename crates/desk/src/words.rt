@@ -121,21 +121,28 @@ pub fn command_of(words: &[String]) -> Result<Command, Expected>
 }
 
 /// What is expected, in words.
+#[tactic(auto, unfolding(crate::specs::Words::expected_text))]
+pub fn told(expected: Expected) -> &'static str
+    ensures { result.now ≡ expected_text expected }
+{
+    match expected {
+        Expected::ACommand => {
+            "expected a command: verdict ORDERING, search ORDERING, laxity or background"
+        }
+        Expected::AnOrdering => {
+            "expected one ordering: fixed, deadline or two-phase, alone or behind promotion-over- or background-over-"
+        }
+        Expected::ABase => "expected one ordering: fixed, deadline or two-phase",
+        Expected::NoMore => "expected no word behind laxity or background",
+    }
+}
+
+// What `told` says of every case, this says only where the writer takes the text, so both stand.
 impl fmt::Display for Expected {
     ghost output = { λ expected. Some (expected_text expected) };
 
-    #[tactic(auto, unfolding(crate::specs::Words::expected_text))]
     fn fmt<W: fmt::Write>(&self, f: &mut fmt::Formatter<W>) -> fmt::Result {
-        f.write_str(match self {
-            Expected::ACommand => {
-                "expected a command: verdict ORDERING, search ORDERING, laxity or background"
-            }
-            Expected::AnOrdering => {
-                "expected one ordering: fixed, deadline or two-phase, alone or behind promotion-over- or background-over-"
-            }
-            Expected::ABase => "expected one ordering: fixed, deadline or two-phase",
-            Expected::NoMore => "expected no word behind laxity or background",
-        })
+        f.write_str(told(*self))
     }
 }
 
