@@ -2,10 +2,11 @@
 
 ghost use Rattle.std.specs.Prelude.{◌≤◌, length, IfOk};
 
+use answers::input::{ROOM, fill};
 use anyhow::anyhow;
 use refusals::kinds::Refusal;
-use std::io::{Read, Write};
-use table_text::reading::{ENOUGH, LONGEST, read};
+use std::io::Write;
+use table_text::reading::{LONGEST, read};
 use table_text::writing::write;
 use tables::table::Table;
 
@@ -20,12 +21,12 @@ fn canonical(text: &[u8], out: &mut [u8]) -> Result<usize, Refusal>
 }
 
 fn run(rt: &HostRuntime) -> anyhow::Result<()> {
-    let mut text = Vec::new(rt.alloc());
-    rt.stdin().take(ENOUGH).read_to_end(&mut text)?;
-    // `write` allocates nothing, and writes into what it is lent
+    // fixed memory, so that no text of a table fails for want of it
+    let mut text = [0u8; ROOM];
+    let len = fill(&mut rt.stdin(), &mut text)?;
     let mut out = [0u8; LONGEST];
     // between quotes, as a text is told on standard error
-    let len = canonical(&text, &mut out).map_err(|e| anyhow!(
+    let len = canonical(&text[..len], &mut out).map_err(|e| anyhow!(
         "\"refused with number {}\"",
         e.number()
     ))?;

@@ -5,7 +5,8 @@ ghost use Rattle.desk.specs.Meanings.{layered, lowest_of, named_meaning};
 ghost use Rattle.desk.specs.Verdicts.{answer_under, TrueUnder};
 
 use crate::naming::{Base, Named};
-use answers::answer::{Answer, Judged};
+use answers::answer::Answer;
+use answers::judging::answer_by;
 use orderings::background::BackgroundLayer;
 use orderings::deadline::Deadline;
 use orderings::fixed::Fixed;
@@ -63,8 +64,5 @@ pub fn judge_under(text: &[u8], named: Named) -> Answer
 {
     let mut table = Table::new();
     read(text, &mut table)?;
-    Ok(Judged {
-        verdict: verdict_under(&table, named),
-        hyperperiod: table.hyperperiod(),
-    })
+    answer_by(verdict_under(&table, named), table.hyperperiod())
 }

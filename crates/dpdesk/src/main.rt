@@ -6,7 +6,7 @@ use desk::naming::Base;
 use desk::outputs::{background_text, laxity_text, table_text, verdict_text};
 use desk::printing::{refused_line, round_line, rounds_header};
 use desk::rounds::enough_rounds;
-use desk::words::command_of;
+use desk::words::{command_of, told};
 use orderings::deadline::Deadline;
 use orderings::fixed::Fixed;
 use orderings::ordering::Ordering;
@@ -21,8 +21,8 @@ use tables::table::Table;
 // The command of the words behind the program's name.
 fn asked(rt: &HostRuntime) -> anyhow::Result<Command> {
     let words: Vec<String> = env::args(rt)?.skip(1).collect(rt.alloc())?;
-    // between quotes, as a text is told on standard error
-    command_of(&words).map_err(|expected| anyhow!("\"{expected}\""))
+    // between quotes, as a text is told on standard error; by `told`, which gives its text in every case
+    command_of(&words).map_err(|expected| anyhow!("{:?}", told(expected)))
 }
 
 // Searches for promotion times over an ordering, and prints each round as it comes and then the table.

@@ -1,10 +1,11 @@
 -- Where a number stands in a list: what a search finds, and that different numbers stand at different places.
-use Rattle.std.specs.Prelude.{◌≡◌, ℕ, ◌<◌, true, false, not, ◌&&◌, ◌≢◌, List, [], ◌∷◌, ◌++◌, length, is_some, Some, None, Option, slice_index, refl}
+use Rattle.std.specs.Prelude.{◌≡◌, ℕ, ◌+◌, ◌<◌, true, false, not, ◌&&◌, ◌≢◌, List, [], ◌∷◌, ◌++◌, length, take, is_some, Some, None, Option, slice_index, slice_set, refl}
 use Rattle.std.proofs.Common.{sym, ap, ◌∙◌, inl, inr, arith}
 use Rattle.std.proofs.lemmas.Bool.{lt-ltb, cases_lt}
-use Rattle.std.proofs.lemmas.List.{get_or_append_left, get_or_push, get_or-take, length_push}
+use Rattle.std.proofs.lemmas.List.{get_or_append_left, get_or_push, get_or-take, length_push, take_more_set}
+use Rattle.bounded.specs.declared.list.Bounded.{Bounded}
 use Rattle.bounded.proofs.Held.{length_items}
-use Rattle.orderings.specs.Places.{NoneTwice, place_in}
+use Rattle.orderings.specs.Places.{NoneTwice, place_in, listed}
 use Rattle.orderings.specs.FirstPlaces.{none_absent, same_from}
 use Rattle.orderings.specs.BackgroundList.{numbers_of, takes_number}
 use Rattle.orderings.specs.declared.background_list.BackgroundList.{BackgroundList}
@@ -35,3 +36,10 @@ numbers_count l = length_items l.places
 
 pub numbers_at : (l : BackgroundList) (k : ℕ) → k < l.places.count → slice_index (numbers_of l) k ≡ slice_index l.places.items k
 numbers_at l k h = get_or-take l.places.count l.places.items k 0 h
+
+-- a number written behind the others stands at the end of the list
+pub pushed : (l : BackgroundList) (p : Bounded ℕ 32) (n : ℕ) → l.places.count < 32 → p.items ≡ slice_set l.places.items l.places.count n → p.count ≡ l.places.count + 1
+    → listed p ≡ numbers_of l ++ n ∷ []
+pushed l p n room items count =
+    let wide : length l.places.items ≡ 32 = l.places.wide in
+    ap (λ k. take k p.items) count ∙ ap (take (l.places.count + 1)) items ∙ take_more_set l.places.items l.places.count n (omega arith)

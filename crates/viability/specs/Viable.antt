@@ -1,5 +1,6 @@
 -- Viability: whether a task still meets its deadline behind all other tasks of a set.
 use Rattle.std.specs.Prelude.{ℕ, ◌+◌, ◌-◌, ◌*◌, ◌/◌, Bool, false, cond, not, ◌&&◌, List, length, get_or, is_some, Option, ◌==◌, nat_le, slice_index_or}
+use Rattle.std.specs.List.{sum_by}
 use Rattle.tables.specs.declared.task.Task.{Task}
 use Rattle.tables.specs.Tasks.{nobody}
 use Rattle.firsts.specs.Lowest.{lowest}
@@ -16,6 +17,10 @@ rounded_up n d = (n + (d - 1)) / d
 -- what a task may ask for in t units: its budget for each job that is released in them
 abbrev pub asked : Task → ℕ → ℕ
 asked x t = x.c * rounded_up t x.t
+
+-- what tasks may ask for together in t units
+abbrev pub asked_together : List Task → ℕ → ℕ
+asked_together xs t = sum_by (λ x. asked x t) xs
 
 -- what the tasks of a set other than i may ask for in t units
 abbrev pub asked_by_others : List Task → List Bool → ℕ → ℕ → ℕ

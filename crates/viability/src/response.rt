@@ -1,10 +1,22 @@
-ghost use Rattle.std.specs.Prelude.{◌≡◌, ◌<◌, ◌≤◌, length};
-ghost use Rattle.tables.specs.Tasks.{Timed};
-ghost use Rattle.viability.specs.Viable.{asked, asked_by_others, response};
+ghost use Rattle.std.specs.Prelude.{◌≡◌, ℕ, ◌<◌, ◌≤◌, length};
+ghost use Rattle.bounded.specs.Lists.{items_of};
+ghost use Rattle.tables.specs.Tasks.{Each, Timed};
+ghost use Rattle.viability.specs.Viable.{asked, asked_together, asked_by_others, response};
 ghost use Rattle.viability.specs.TaskSets.{members_of};
 
 use crate::task_set::TaskSet;
+use bounded::list::Bounded;
 use tables::task::Task;
+
+// What stands in the places behind the tasks that are gathered.
+const NOBODY: Task = Task {
+    c: 0,
+    d: 0,
+    t: 0,
+    p1: 0,
+    p2: 0,
+    s: 0,
+};
 
 // What a task may ask for in t units: its budget C for each of its jobs that is released in them.
 #[tactic(auto, using(crate::proofs::Rounded::ceil_is))]
@@ -17,20 +29,35 @@ fn asked(task: &Task, t: u32) -> u64
     task.c as u64 * t.div_ceil(task.t) as u64
 }
 
+// What tasks may ask for together in t units.
+fn asked_together(tasks: &[Task], t: u32) -> u64
+    requires few { length tasks.now ≤ 32 }
+    requires timed { Each Timed tasks.now }
+    requires time { t ≤ 1000000 }
+    ensures value { result ≡ asked_together tasks.now t }
+    ensures bound { result ≤ 64000000000000 }
+{
+    let mut sum = 0;
+    for x in tasks {
+        sum += asked(x, t);
+    }
+    sum
+}
+
 impl TaskSet<'_> {
-    // What the tasks of the set other than i may ask for in t units.
-    fn asked_by_others(&self, i: usize, t: u32) -> u64
-        requires time { t ≤ 1000000 }
-        ensures value { result ≡ asked_by_others self.now.tasks.now (members_of self.now) i t }
-        ensures bound { result ≤ 64000000000000 }
+    // The tasks of the set other than i. They are gathered once, so that a search for a time asks no flag again.
+    #[tactic(auto, using(crate::proofs::Others::other_pushed, crate::proofs::Others::other_passed_by))]
+    fn others(&self, i: usize) -> Bounded<Task, 32>
+        ensures timed { Each Timed (items_of result) }
+        ensures ask_for_what_others_do { (t : ℕ) → asked_together (items_of result) t ≡ asked_by_others self.now.tasks.now (members_of self.now) i t }
     {
-        let mut sum = 0;
+        let mut found = Bounded::new(NOBODY);
         for (j, x) in self.tasks.iter().enumerate() {
             if self.has(j) && j != i {
-                sum += asked(x, t);
+                found.push(*x);
             }
         }
-        sum
+        found
     }
 
     // The response time of task i behind all other tasks of the set: the smallest t up to its deadline D in which one
@@ -41,13 +68,14 @@ impl TaskSet<'_> {
         ensures { result ≡ response self.now.tasks.now (members_of self.now) i }
     {
         let own = self.tasks[i];
+        let others = self.others(i);
         let mut t = 1;
         // a rule of the project: the smallest t is found by a loop that breaks with it, and the others are added up in another
         loop {
             if t > own.d {
                 break None;
             }
-            let load = own.c as u64 + self.asked_by_others(i, t);
+            let load = own.c as u64 + asked_together(others.as_slice(), t);
             if load <= t as u64 {
                 break Some(t);
             }

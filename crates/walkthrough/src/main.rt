@@ -1,5 +1,6 @@
 #![tactic(auto)]
 
+use answers::input::{ROOM, fill};
 use orderings::deadline::Deadline;
 use orderings::fixed::Fixed;
 use orderings::two_phase::TwoPhase;
@@ -7,9 +8,8 @@ use refusals::kinds::{Place, ReadRefusal, Refusal};
 use schedules::run::Run;
 use schedules::verdict::{Miss, Verdict};
 use std::io;
-use std::io::Read;
 use std::ops::ControlFlow;
-use table_text::reading::{ENOUGH, read};
+use table_text::reading::read;
 use tables::table::Table;
 use tables::task::Task;
 
@@ -142,11 +142,12 @@ fn tell_run(rt: &HostRuntime, table: &Table) -> io::Result<()> {
 }
 
 fn main(rt: HostRuntime) -> io::Result<()> {
-    let mut text = Vec::new(rt.alloc());
-    rt.stdin().take(ENOUGH).read_to_end(&mut text)?;
+    // fixed memory, so that nothing fails for want of it
+    let mut text = [0u8; ROOM];
+    let len = fill(&mut rt.stdin(), &mut text)?;
     let mut table = Table::new();
-    println!(rt; "{} bytes of table text are read.", text.len())?;
-    match read(&text, &mut table) {
+    println!(rt; "{len} bytes of table text are read.")?;
+    match read(&text[..len], &mut table) {
         Err(e) => tell_refusal(&rt, e),
         Ok(_) => {
             tell_table(&rt, &table)?;
