@@ -6,7 +6,7 @@ use std::io;
 use std::io::Read;
 use table_text::reading::LONGEST;
 
-/// Room for a text that `dpverdict` reads: one byte more than the longest, so that an overlong one is seen.
+/// Room for a text that a program reads: one byte more than the longest, so that an overlong one is seen.
 pub const ROOM: usize = LONGEST + 1;
 
 /// Reads until the buffer is full or the input ends, and answers how many bytes were read. They stand at the buffer's front.
