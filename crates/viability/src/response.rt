@@ -46,7 +46,6 @@ fn asked_together(tasks: &[Task], t: u32) -> u64
 
 impl TaskSet<'_> {
     // The tasks of the set other than i. They are gathered once, so that a search for a time asks no flag again.
-    #[tactic(auto, using(crate::proofs::Others::other_pushed, crate::proofs::Others::other_passed_by))]
     fn others(&self, i: usize) -> Bounded<Task, 32>
         ensures timed { Each Timed (items_of result) }
         ensures ask_for_what_others_do { (t : ℕ) → asked_together (items_of result) t ≡ asked_by_others self.now.tasks.now (members_of self.now) i t }
