@@ -8,7 +8,7 @@ use crate::task_set::TaskSet;
 use bounded::list::Bounded;
 use tables::task::Task;
 
-// What stands in the places behind the tasks that are gathered.
+// What stands in the places behind the tasks that are gathered. It means nothing, so no crate shows its own.
 const NOBODY: Task = Task {
     c: 0,
     d: 0,
